@@ -1,0 +1,16 @@
+-- What a reader must believe, in reading order; Laws are what is proved of it.
+pub mod Answer
+pub mod Bytes
+pub mod Text
+pub mod Codes
+pub mod Kinds
+pub mod Tree
+pub mod Grammar
+pub mod Read
+pub mod Table
+pub mod Encode
+pub mod Outcomes
+pub mod Listing
+pub mod InCode
+pub mod Laws
+pub mod Examples

@@ -1,0 +1,143 @@
+-- What a table holds: the tree that its rows and its text write down, or the writer's refusal 1 to 6 (docs/FORMAT.md, 2 and 5.2).
+use Prim.Native.Nat.{ℕ, zero, suc, _+_, _-_, _/_, _%_, _^_}
+use mathlib.Core.Path.{_≡_}
+use mathlib.Core.List.{List, [], _∷_}
+use mathlib.Core.Bool.{Bool, true, false, _&&_}
+use lib.Dec.{T, eqb, leb, ltb}
+use lib.ListN.{length, take, drop}
+use Rattle.standard.specs.Answer.{Answer, got, refuse, at, _>>=_, _>>_, need, rowsAmiss, kindUnknown, tooDeep, elementUnfit, numberOutside, textAmiss}
+use Rattle.standard.specs.Tree.{Tree, node, Trees, none, more, root, count}
+use Rattle.standard.specs.Kinds.{Style, foreign, numbered, blob, lettered, listed, mapped, arrayed, describing, styleOf, isKind, plain, fair, clean}
+
+-- the writer's limit on lengths, counts and bytes (docs/FORMAT.md, 2.7)
+abbrev pub most : ℕ
+most = 1048576
+
+-- Where a row stands: in no array, first in one, or behind elements of a kind
+pub data Spot : Type 0 where
+  any first : Spot
+  like : (kind : ℕ) → Spot
+
+unfoldable pub allowed : Spot → (kind : ℕ) → Bool
+allowed any k = true
+allowed first k = plain (styleOf k)
+allowed (like j) k = eqb k j
+
+-- is a number in the table's range for its kind
+unfoldable pub ranged : Style → (kind number : ℕ) → Bool
+ranged foreign k n = false
+ranged (numbered s w) k n = ltb n (256 ^ w) && fair k n
+ranged (blob w) k n = eqb n 0
+ranged (lettered s) k n = leb n most
+ranged (listed e s) k n = leb n most
+ranged (mapped s) k n = leb n most && eqb (n % 2) 0
+ranged (arrayed s) k n = leb n most
+ranged describing k n = eqb n 2
+
+-- how many bytes of text belong to a row
+unfoldable pub letters : Style → (number : ℕ) → ℕ
+letters foreign n = 0
+letters (numbered s w) n = 0
+letters (blob w) n = w
+letters (lettered s) n = n
+letters (listed e s) n = 0
+letters (mapped s) n = 0
+letters (arrayed s) n = 0
+letters describing n = 0
+
+-- how many children belong to a row
+unfoldable pub children : Style → (number : ℕ) → ℕ
+children foreign n = 0
+children (numbered s w) n = 0
+children (blob w) n = 0
+children (lettered s) n = 0
+children (listed e s) n = n
+children (mapped s) n = n
+children (arrayed s) n = n
+children describing n = n
+
+-- the spot of a row's first child, and of the next behind one of kind k
+unfoldable pub firstIn : Style → (number : ℕ) → Spot
+firstIn foreign n = any
+firstIn (numbered s w) n = any
+firstIn (blob w) n = any
+firstIn (lettered s) n = any
+firstIn (listed e s) n = any
+firstIn (mapped s) n = any
+firstIn (arrayed s) n = first
+firstIn describing n = any
+
+unfoldable pub next : Spot → (kind : ℕ) → Spot
+next any k = any
+next first k = like k
+next (like j) k = like j
+
+-- What is asked of a row at a spot, with its text and its children
+pub record Row (c : Spot) (k n : ℕ) (t : List ℕ) (cs : Trees) : Type 0 where
+  pub known : T (isKind (styleOf k))
+  pub fits : T (allowed c k)
+  pub inRange : T (ranged (styleOf k) k n)
+  pub long : length t ≡ letters (styleOf k) n
+  pub good : T (clean k t)
+  pub full : count cs ≡ children (styleOf k) n
+
+-- each of these trees, from that spot on
+abbrev pub All : (Spot → Tree → Type 0) → Spot → Trees → Type 0
+All P c none = Unit {0}
+All P c (more v vs) = P c v × All P (next c (root v)) vs
+
+-- A tree that a table can hold: of at most so many levels, at a spot
+abbrev pub Valid : (levels : ℕ) → Spot → Tree → Type 0
+Valid zero c v = ⊥
+Valid (suc l) c (node k n t cs) = Row c k n t cs × All (λ d v. Valid l d v) (firstIn (styleOf k) n) cs
+
+-- the next w bytes of the text, for row i
+unfoldable pub letter : (row width : ℕ) → List ℕ → Answer (List ℕ × List ℕ)
+letter i w x = do
+  need (leb w (length x)) textAmiss (at i)
+  got (take w x, drop w x)
+
+-- so many values, the first at row i and at that spot, each taken by f
+unfoldable pub several : (Spot → ℕ → List ℕ → List ℕ → Answer (Tree × List ℕ × List ℕ)) → Spot → (count row : ℕ) → (words text : List ℕ) → Answer (Trees × List ℕ × List ℕ)
+several f c zero i w x = got (none, w, x)
+several f c (suc n) i w x = do
+  (v, u, y) ← f c i w x
+  (vs, r, z) ← several f (next c (root v)) n (i + (length w - length u) / 2) u y
+  got (more v vs, r, z)
+
+-- the value whose row i is of kind k with number n, and what is left of words and text
+unfoldable pub row : (Spot → ℕ → List ℕ → List ℕ → Answer (Tree × List ℕ × List ℕ)) → Spot → (row kind number : ℕ) → (words text : List ℕ) → Answer (Tree × List ℕ × List ℕ)
+row f c i k n w x = do
+  need (allowed c k) elementUnfit (at i)
+  need (ranged (styleOf k) k n) numberOutside (at i)
+  (t, y) ← letter i (letters (styleOf k) n) x
+  need (clean k t) textAmiss (at i)
+  (vs, r, z) ← several f (firstIn (styleOf k) n) (children (styleOf k) n) (i + 1) w y
+  got (node k n t vs, r, z)
+
+-- the value at row i, of at most so many levels
+unfoldable pub tree : (levels : ℕ) → Spot → (row : ℕ) → (words text : List ℕ) → Answer (Tree × List ℕ × List ℕ)
+tree zero c i [] x = refuse rowsAmiss (at i)
+tree zero c i (k ∷ []) x = refuse rowsAmiss (at i)
+tree zero c i (k ∷ n ∷ w) x = do
+  need (isKind (styleOf k)) kindUnknown (at i)
+  refuse tooDeep (at i)
+tree (suc l) c i [] x = refuse rowsAmiss (at i)
+tree (suc l) c i (k ∷ []) x = refuse rowsAmiss (at i)
+tree (suc l) c i (k ∷ n ∷ w) x = do
+  need (isKind (styleOf k)) kindUnknown (at i)
+  row (λ d j u y. tree l d j u y) c i k n w x
+
+-- nothing is left
+unfoldable pub spent : (number row : ℕ) → List ℕ → Answer (Unit {0})
+spent a i [] = got tt
+spent a i (b ∷ r) = refuse a (at i)
+
+-- the value that a whole table holds
+unfoldable pub table : (levels : ℕ) → (words text : List ℕ) → Answer Tree
+table l w x = do
+  need (eqb (length w % 2) 0) rowsAmiss (at 0)
+  (v, u, y) ← tree l any 0 w x
+  spent rowsAmiss ((length w - length u) / 2) u
+  spent textAmiss (length w / 2) y
+  got v
