@@ -4,9 +4,9 @@ use Prim.Native.Nat.{ℕ}
 use mathlib.Core.Path.{_≡_, refl}
 use mathlib.Core.List.{List, [], _∷_}
 use mathlib.Core.Bool.{Bool, true, false}
-use lib.Dec.{eqb, leb}
+use lib.Dec.{leb}
 use lib.ListN.{length}
-use Rattle.standard.specs.Text.{if}
+use Rattle.standard.specs.Choose.{lookup}
 
 -- What stands behind the format code of a value with no values in it
 pub data Scalar : Type 0 where
@@ -84,12 +84,8 @@ forty : length codes ≡ 40
 unfolding codes
 forty = refl
 
-unfoldable pub findCode : ℕ → List Entry → Entry
-findCode c [] = entry c 0 unknown
-findCode c (e ∷ es) = if (eqb c (e .code)) e (findCode c es)
-
-unfoldable pub entryOf : ℕ → Entry
-entryOf c = findCode c codes
+unfoldable pub entryOf : (code : ℕ) → Entry
+entryOf c = lookup (λ e. e .code) (entry c 0 unknown) c codes
 
 abbrev pub layoutOf : ℕ → Layout
 layoutOf c = entryOf c .layout

@@ -5,7 +5,7 @@ use mathlib.Core.List.{List, [], _∷_, _++_}
 use mathlib.Core.Bool.{Bool, true, false, _||_}
 use lib.Dec.{eqb, leb, ltb}
 use lib.ListN.{length}
-use Rattle.standard.specs.Text.{if}
+use Rattle.standard.specs.Choose.{if}
 use Rattle.standard.specs.Bytes.{be}
 use Rattle.standard.specs.Tree.{Tree, node, Trees, none, more}
 use Rattle.standard.specs.Kinds.{Short, never, flag, unsigned, signed, Style, foreign, numbered, blob, lettered, listed, mapped, arrayed, describing, styleOf}

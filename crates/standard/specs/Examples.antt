@@ -4,10 +4,11 @@ use mathlib.Core.Path.{_≡_, refl}
 use mathlib.Core.List.{List, [], _∷_, _++_}
 use lib.ListN.{length}
 use Rattle.standard.specs.Answer.{Answer, got, refuse, at}
+use Rattle.standard.specs.Choose.{lookup}
 use Rattle.standard.specs.Bytes.{be, spell}
 use Rattle.standard.specs.Text.{Fault, flawless, fault, faultIn, faultDue, leadIn, utf8, ascii}
-use Rattle.standard.specs.Codes.{codes, findCode, entryOf, isCode, filled, element}
-use Rattle.standard.specs.Kinds.{kinds, findKind, styleOf, isKind, plain as plainStyle, fair, flaw, paired}
+use Rattle.standard.specs.Codes.{codes, entryOf, isCode, filled, element}
+use Rattle.standard.specs.Kinds.{kinds, styleOf, isKind, plain as plainStyle, fair, flaw, paired}
 use Rattle.standard.specs.Tree.{rows, text, tall, count}
 use Rattle.standard.specs.Grammar.{extend}
 use Rattle.standard.specs.Read.{cut, plain, leaf, many, done, fields, held, items, inside, coded, behind, payload, value, front}
@@ -49,5 +50,5 @@ _and_ a b = (a, b)
 infixr 20 _and_
 -- every example is written to its bytes
 pub proved-set : Written examples
-unfolding examples bytesOf table tree row several letter spent allowed ranged letters children firstIn next styleOf findKind kinds isKind plainStyle fair flaw faultDue leadIn utf8 ascii encode compact shortest headed item payloads wide enclosed fitsByte be count
+unfolding examples bytesOf table tree row several letter spent allowed ranged letters children firstIn next styleOf lookup kinds isKind plainStyle fair flaw faultDue leadIn utf8 ascii encode compact shortest headed item payloads wide enclosed fitsByte be count
 proved-set = refl and refl and refl and refl and refl and refl and refl and refl and refl and refl and refl and tt

@@ -5,7 +5,7 @@ use mathlib.Core.Path.{_≡_}
 use mathlib.Core.List.{List, [], _∷_, _++_}
 use lib.Dec.{T, ltb}
 use lib.ListN.{length}
-use Rattle.standard.specs.Text.{if}
+use Rattle.standard.specs.Choose.{if}
 use Rattle.standard.specs.Bytes.{unbe}
 use Rattle.standard.specs.Tree.{Tree, node, Trees, none, more}
 use Rattle.standard.specs.Codes.{Scalar, constant, whole, small, raw, sized, Layout, described, scalar, compound, array, layoutOf, kindOf, element}

@@ -6,7 +6,8 @@ use mathlib.Core.List.{List, [], _∷_}
 use mathlib.Core.Bool.{Bool, true, false, _&&_, _||_}
 use lib.Dec.{eqb, leb, ltb}
 use lib.ListN.{length}
-use Rattle.standard.specs.Text.{if, Fault, flawless, isFlawless, utf8, ascii, faultIn}
+use Rattle.standard.specs.Choose.{if, lookup}
+use Rattle.standard.specs.Text.{Fault, flawless, isFlawless, utf8, ascii, faultIn}
 
 -- The shorter forms of a number, by their format codes
 pub data Short : Type 0 where
@@ -75,12 +76,8 @@ twentyFive : length kinds ≡ 25
 unfolding kinds
 twentyFive = refl
 
-unfoldable pub findKind : ℕ → List Kind → Style
-findKind k [] = foreign
-findKind k (e ∷ es) = if (eqb k (e .kind)) (e .style) (findKind k es)
-
-unfoldable pub styleOf : ℕ → Style
-styleOf k = findKind k kinds
+unfoldable pub styleOf : (kind : ℕ) → Style
+styleOf k = lookup (λ e. e .kind) (kind k foreign) k kinds .style
 
 unfoldable pub isKind : Style → Bool
 isKind foreign = false

@@ -11,3 +11,5 @@ pub mod Bounds
 pub mod Written
 pub mod Tables
 pub mod Round
+pub mod Flat
+pub mod Flow

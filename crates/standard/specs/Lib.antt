@@ -1,5 +1,6 @@
 -- What a reader must believe, in reading order; Laws are what is proved of it.
 pub mod Answer
+pub mod Choose
 pub mod Bytes
 pub mod Text
 pub mod Codes

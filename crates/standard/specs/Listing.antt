@@ -5,7 +5,7 @@ use mathlib.Core.Bool.{Bool}
 use lib.Dec.{leb, ltb}
 use lib.ListN.{length}
 use Rattle.standard.specs.Answer.{Answer, got, refuse, at}
-use Rattle.standard.specs.Text.{if}
+use Rattle.standard.specs.Choose.{if}
 use Rattle.standard.specs.Tree.{Tree, rows}
 use Rattle.standard.specs.Read.{front}
 

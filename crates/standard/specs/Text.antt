@@ -4,10 +4,7 @@ use Prim.Native.Nat.{ℕ, suc}
 use mathlib.Core.List.{List, [], _∷_}
 use mathlib.Core.Bool.{Bool, true, false, _&&_}
 use lib.Dec.{leb}
-
-abbrev pub if : {A : Type 0} → Bool → A → A → A
-if true a b = a
-if false a b = b
+use Rattle.standard.specs.Choose.{if}
 
 -- the bytes from lo to hi
 pub record Range : Type 0 where

@@ -1,11 +1,12 @@
 -- Answers: what holds of one that is no refusal, and small facts about tests.
 use Prim.Native.Nat.{ℕ}
 use mathlib.Core.Path.{_≡_, refl}
-use mathlib.Core.List.{List, _++_}
+use mathlib.Core.List.{List, [], _∷_, _++_}
 use mathlib.Core.Bool.{Bool, true, false, not, _&&_}
+use borrow.Author.Tests.{ne-eqb}
 use lib.Dec.{T}
 use Rattle.standard.specs.Answer.{Answer, got, refuse, Place, _>>=_, need}
-use Rattle.standard.specs.Text.{if}
+use Rattle.standard.specs.Choose.{if, lookup}
 
 pub T-true : (b : Bool) → T b → b ≡ true
 T-true true t = refl
@@ -23,6 +24,16 @@ and-right false b t = absurd t
 pub if-case : {A : Type 0} (P : A → Type 0) (b : Bool) (x y : A) → (T b → P x) → (T (not b) → P y) → P (if b x y)
 if-case P true x y f g = f tt
 if-case P false x y f g = g tt
+
+-- n is none of the keys
+abbrev pub Absent : {A : Type 0} → (key : A → ℕ) → ℕ → List A → Type 0
+Absent key n [] = Unit {0}
+Absent key n (e ∷ es) = ¬ (n ≡ key e) × Absent key n es
+
+pub lookup-missing : {A : Type 0} (key : A → ℕ) (x : A) (n : ℕ) (es : List A) → Absent key n es → lookup key x n es ≡ x
+unfolding lookup
+lookup-missing key x n [] h = refl
+lookup-missing key x n (e ∷ es) h = rw (ne-eqb n (key e) (h .0)) (lookup-missing key x n es (h .1))
 
 -- P holds of an answer that is no refusal
 pub data Holds {A : Type 0} (P : A → Type 0) : Answer A → Type 0 where

@@ -6,11 +6,11 @@ use mathlib.Core.Bool.{Bool, true, false, _||_, _&&_}
 use native.Mathlib.Omega.{arith}
 use lib.Dec.{T, eqb, leb, ltb, eqb→eq, ltb→lt, nltb→le, leb→le, lit<}
 use lib.ListN.{length, length-append}
-use Rattle.standard.specs.Text.{if}
+use Rattle.standard.specs.Choose.{if, lookup}
 use Rattle.standard.specs.Bytes.{be, unbe}
 use Rattle.standard.specs.Tree.{Tree, node, Trees, none, more, root, count}
-use Rattle.standard.specs.Codes.{Scalar, constant, whole, small, raw, sized, Layout, described, scalar, compound, array, entry, codes, findCode, entryOf, layoutOf, kindOf, filled, element}
-use Rattle.standard.specs.Kinds.{Short, never, flag, unsigned, signed, Style, foreign, numbered, blob, lettered, listed, mapped, arrayed, describing, Kind, kinds, findKind, styleOf, plain, fair, clean, paired, named}
+use Rattle.standard.specs.Codes.{Scalar, constant, whole, small, raw, sized, Layout, described, scalar, compound, array, entry, codes, entryOf, layoutOf, kindOf, filled, element}
+use Rattle.standard.specs.Kinds.{Short, never, flag, unsigned, signed, Style, foreign, numbered, blob, lettered, listed, mapped, arrayed, describing, Kind, kind, kinds, styleOf, plain, fair, clean, paired, named}
 use Rattle.standard.specs.Grammar.{extend, Plain, constant′, whole′, small′, raw′, sized′, Many, none′, more′, Leaf, leaf′, Fields, fields′, Coded, coded′, Items, empty′, items′, Shape, scalar′, described′, compound′, array′, Payload, Form, Formed}
 use Rattle.standard.specs.Table.{most, Spot, any, first, like, allowed, ranged, letters, children, firstIn, next, Row, All, Valid}
 use Rattle.standard.specs.Encode.{fitsByte, shortest, enclosed, compact, wide, headed, encode, encode*, item, payloads}
@@ -50,7 +50,7 @@ _also_ a b = (a, b)
 
 infixr 20 _also_
 tables-agree : AllAgree kinds
-unfolding kinds entryOf findCode codes fair paired
+unfolding kinds entryOf lookup codes fair paired
 tables-agree =
     refl
     also (refl, tt)
@@ -79,10 +79,11 @@ tables-agree =
     also (refl, refl)
     also tt
 
-agreeIn : (k : ℕ) (es : List Kind) → AllAgree es → Agrees k (findKind k es)
-unfolding findKind
+agreeIn : (k : ℕ) (es : List Kind) → AllAgree es → Agrees k (lookup (λ e. e .kind) (kind k foreign) k es .style)
+unfolding lookup
 agreeIn k [] h = tt
-agreeIn k (e ∷ es) h = if-case (Agrees k) (eqb k (e .kind)) (e .style) (findKind k es) (λ t. rw (eqb→eq k (e .kind) t) (h .0)) (λ t. agreeIn k es (h .1))
+agreeIn k (e ∷ es) h =
+    if-case (λ x. Agrees k (x .style)) (eqb k (e .kind)) e (lookup (λ e. e .kind) (kind k foreign) k es) (λ t. rw (eqb→eq k (e .kind) t) (h .0)) (λ t. agreeIn k es (h .1))
 
 -- every kind is written with codes that read to it
 pub agreement : (k : ℕ) → Agrees k (styleOf k)
