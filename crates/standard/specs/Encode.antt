@@ -21,16 +21,20 @@ shortest (flag y x) w k n = if (eqb n 0) (x ∷ []) (y ∷ [])
 shortest (unsigned z s) w k n = if (eqb n 0) (z ∷ []) (if (ltb n 256) (s ∷ be 1 n) (k ∷ be w n))
 shortest (signed s) w k n = if (fitsByte w n) (s ∷ be 1 n) (k ∷ be w n)
 
--- size, count and body, in the short form with code s up to 254 bytes of body, else in the wide form with code k (docs/FORMAT.md, 3.5)
+-- texts and bodies of fewer bytes than this take the short form
+abbrev pub shortEnd : ℕ
+shortEnd = 255
+
+-- size, count and body, in the short form with code s or in the wide form with code k (docs/FORMAT.md, 3.5)
 unfoldable pub enclosed : (short wide count : ℕ) → (body : List ℕ) → List ℕ
-enclosed s k n b = if (ltb (length b) 255) (s ∷ be 1 (1 + length b) ++ be 1 n ++ b) (k ∷ be 4 (4 + length b) ++ be 4 n ++ b)
+enclosed s k n b = if (ltb (length b) shortEnd) (s ∷ be 1 (1 + length b) ++ be 1 n ++ b) (k ∷ be 4 (4 + length b) ++ be 4 n ++ b)
 
 -- what a row is written to, given the bytes of its children as values and as elements
 unfoldable pub compact : Style → (kind number : ℕ) → (text body elements : List ℕ) → List ℕ
 compact foreign k n t b a = []
 compact (numbered s w) k n t b a = shortest s w k n
 compact (blob w) k n t b a = k ∷ t
-compact (lettered s) k n t b a = if (ltb n 255) (s ∷ be 1 n ++ t) (k ∷ be 4 n ++ t)
+compact (lettered s) k n t b a = if (ltb n shortEnd) (s ∷ be 1 n ++ t) (k ∷ be 4 n ++ t)
 compact (listed e s) k n t b a = if (eqb n 0) (e ∷ []) (enclosed s k n b)
 compact (mapped s) k n t b a = enclosed s k n b
 compact (arrayed s) k n t b a = enclosed s k n a

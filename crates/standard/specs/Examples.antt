@@ -1,8 +1,8 @@
 -- Worked examples, computed by the prover (docs/FORMAT.md, 10).
 use Prim.Native.Nat.{ℕ, zero, suc}
 use mathlib.Core.Path.{_≡_, refl}
-use mathlib.Core.List.{List, [], _∷_, _++_}
-use lib.ListN.{length}
+use mathlib.Core.List.{List, [], _∷_, _++_, map}
+use lib.ListN.{replicate}
 use Rattle.standard.specs.Answer.{Answer, got, refuse, at}
 use Rattle.standard.specs.Choose.{lookup}
 use Rattle.standard.specs.Bytes.{be, spell}
@@ -10,11 +10,12 @@ use Rattle.standard.specs.Text.{Fault, flawless, fault, faultIn, faultDu
 use Rattle.standard.specs.Codes.{codes, entryOf, isCode, filled, element}
 use Rattle.standard.specs.Kinds.{kinds, styleOf, isKind, plain as plainStyle, fair, flaw, paired}
 use Rattle.standard.specs.Tree.{rows, text, tall, count}
-use Rattle.standard.specs.Grammar.{extend}
+use Rattle.standard.specs.Grammar.{extend, negative}
 use Rattle.standard.specs.Read.{cut, plain, leaf, many, done, fields, held, items, inside, coded, behind, payload, value, front}
 use Rattle.standard.specs.Table.{allowed, ranged, letters, children, firstIn, next, letter, several, row, tree, spent, table}
 use Rattle.standard.specs.Encode.{encode, compact, shortest, headed, item, payloads, wide, enclosed, fitsByte}
 use Rattle.standard.specs.Outcomes.{bytesOf, size, Extent, measure}
+use Rattle.standard.specs.Listing.{decimalIn, hexDigit, hex, line, lines, shown, listing}
 
 pub record Example : Type 0 where
   pub words : List ℕ
@@ -52,3 +53,109 @@ infixr 20 _and_
 pub proved-set : Written examples
 unfolding examples bytesOf table tree row several letter spent allowed ranged letters children firstIn next styleOf lookup kinds isKind plainStyle fair flaw faultDue leadIn utf8 ascii encode compact shortest headed item payloads wide enclosed fitsByte be count
 proved-set = refl and refl and refl and refl and refl and refl and refl and refl and refl and refl and refl and tt
+
+-- Reading, by measuring: a value's length, rows and text, or the refusal
+
+fits : (length rows text : ℕ) → Answer Extent
+fits n r t = got (record { length = n; rows = r; text = t })
+
+inputs : List (List ℕ)
+inputs =
+    []
+    ∷ (0x40 ∷ 0x40 ∷ [])
+    ∷ (0x46 ∷ [])
+    ∷ (0x56 ∷ 0x02 ∷ [])
+    ∷ (0xc0 ∷ 0x00 ∷ [])
+    ∷ (0xc0 ∷ 0x01 ∷ 0x01 ∷ [])
+    ∷ (0xc0 ∷ 0x03 ∷ 0x01 ∷ 0x45 ∷ 0x45 ∷ [])
+    ∷ (0xc0 ∷ 0x05 ∷ 0x01 ∷ 0x40 ∷ [])
+    ∷ (0xc1 ∷ 0x02 ∷ 0x01 ∷ 0x40 ∷ [])
+    ∷ (0xe0 ∷ 0x02 ∷ 0x01 ∷ 0x40 ∷ [])
+    ∷ (0xe0 ∷ 0x02 ∷ 0x00 ∷ 0x70 ∷ [])
+    ∷ (0xd0 ∷ 0x00 ∷ 0x00 ∷ 0x00 ∷ 0x03 ∷ [])
+    ∷ (0xd0 ∷ 0x00 ∷ 0x00 ∷ 0x00 ∷ 0x04 ∷ [])
+    ∷ (0xe0 ∷ 0x04 ∷ 0x03 ∷ 0x56 ∷ 0x02 ∷ 0x01 ∷ [])
+    ∷ (0xe0 ∷ 0x04 ∷ 0x01 ∷ 0x56 ∷ 0x02 ∷ 0x01 ∷ [])
+    ∷ (0xe0 ∷ 0x03 ∷ 0x00 ∷ 0x46 ∷ 0x40 ∷ [])
+    ∷ (0xe0 ∷ 0x03 ∷ 0x00 ∷ 0x40 ∷ 0x40 ∷ [])
+    ∷ (0xe0 ∷ 0x03 ∷ 0x00 ∷ 0x70 ∷ 0x46 ∷ [])
+    ∷ replicate 32 0x00
+    ∷ (0x54 ∷ 0x80 ∷ [])
+    ∷ []
+
+answers : List (Answer Extent)
+answers =
+    refuse 9 (at 0)
+    ∷ fits 1 1 0
+    ∷ refuse 10 (at 0)
+    ∷ refuse 11 (at 0)
+    ∷ refuse 12 (at 0)
+    ∷ refuse 9 (at 3)
+    ∷ refuse 12 (at 0)
+    ∷ refuse 9 (at 0)
+    ∷ refuse 12 (at 0)
+    ∷ refuse 4 (at 0)
+    ∷ fits 4 1 0
+    ∷ refuse 12 (at 0)
+    ∷ refuse 9 (at 0)
+    ∷ refuse 11 (at 0)
+    ∷ refuse 11 (at 0)
+    ∷ refuse 10 (at 0)
+    ∷ refuse 4 (at 0)
+    ∷ refuse 12 (at 0)
+    ∷ refuse 3 (at 32)
+    ∷ fits 2 1 0
+    ∷ []
+
+reading : map (measure 32) inputs ≡ answers
+unfolding inputs answers fits lookup spell faultDue leadIn utf8 ascii codes entryOf isCode filled element fair flaw paired tall text extend negative cut plain leaf many done fields held items inside coded behind payload value front measure
+reading = refl
+
+-- lists, one in the other: 32 are written to 94 bytes, and the 33rd is too deep, at its row
+nest : ℕ → List ℕ
+nest zero = 0xd0 ∷ 0 ∷ []
+nest (suc n) = 0xd0 ∷ 1 ∷ nest n
+
+deep : (size 32 (nest 31) [] ≡ got 94) × (size 32 (nest 32) [] ≡ refuse 3 (at 32))
+unfolding nest size bytesOf table tree row several letter spent allowed ranged letters children firstIn next styleOf lookup kinds isKind plainStyle fair flaw encode compact shortest headed item payloads wide enclosed fitsByte be count
+deep = (refl, refl)
+
+-- at level 32 a map's odd count is seen before the missing child; an array of count 0 is no fault, one of count 1 is too deep at its own place
+under : List ℕ → List ℕ
+under r = replicate 31 0x00 ++ r
+
+lastLevel : map (λ r. measure 32 (under r)) ((0xc1 ∷ 1 ∷ 1 ∷ []) ∷ (0xc1 ∷ 1 ∷ 2 ∷ []) ∷ (0xe0 ∷ 2 ∷ 1 ∷ 0x46 ∷ []) ∷ (0xe0 ∷ 1 ∷ 0 ∷ []) ∷ []) ≡ refuse 12 (at 31) ∷ refuse 3 (at 34) ∷ refuse 3 (at 31) ∷ refuse 9 (at 34) ∷ []
+unfolding under lookup spell codes entryOf isCode filled element paired extend negative cut plain leaf many done fields held items inside coded behind payload value front measure fair flaw tall text
+lastLevel = refl
+
+-- the edges of RFC 3629: the last good and the first bad second byte of each row, stray and missing bytes, and the place of the first fault
+texts : List (List ℕ)
+texts =
+    (0xf4 ∷ 0x8f ∷ 0xbf ∷ 0xbf ∷ 0xed ∷ 0x9f ∷ 0xbf ∷ 0xc2 ∷ 0x80 ∷ 0x7f ∷ [])
+    ∷ (0xc1 ∷ 0xbf ∷ [])
+    ∷ (0x24 ∷ 0xe0 ∷ 0x9f ∷ 0xbf ∷ [])
+    ∷ (0x24 ∷ 0xed ∷ 0xa0 ∷ 0x80 ∷ [])
+    ∷ (0xf0 ∷ 0x8f ∷ 0xbf ∷ 0xbf ∷ [])
+    ∷ (0xf4 ∷ 0x90 ∷ 0x80 ∷ 0x80 ∷ [])
+    ∷ (0xf5 ∷ 0x80 ∷ 0x80 ∷ 0x80 ∷ [])
+    ∷ (0xc3 ∷ 0x98 ∷ 0x80 ∷ [])
+    ∷ (0x78 ∷ 0xc3 ∷ 0xc3 ∷ 0x98 ∷ [])
+    ∷ (0x78 ∷ 0xe2 ∷ 0x82 ∷ [])
+    ∷ []
+
+faults : map (faultIn utf8) texts ≡ flawless ∷ fault 0 ∷ fault 1 ∷ fault 1 ∷ fault 0 ∷ fault 0 ∷ fault 0 ∷ fault 2 ∷ fault 1 ∷ fault 1 ∷ []
+unfolding texts faultDue leadIn utf8
+faults = refl
+
+symbols : (faultIn ascii (0x00 ∷ 0x7f ∷ []) ≡ flawless) × (faultIn ascii (0x76 ∷ 0x80 ∷ []) ≡ fault 1)
+unfolding faultDue leadIn ascii
+symbols = (refl, refl)
+
+-- the listing of a map from symbol v to uint 2: "0 d1 2", "1 b3 1", "2 70 2", "end 8"
+listed : listing 32 (0xc1 ∷ 6 ∷ 2 ∷ 0xa3 ∷ 1 ∷ 0x76 ∷ 0x52 ∷ 2 ∷ []) ≡
+    48 ∷ 32 ∷ 100 ∷ 49 ∷ 32 ∷ 50 ∷ 10
+    ∷ 49 ∷ 32 ∷ 98 ∷ 51 ∷ 32 ∷ 49 ∷ 10
+    ∷ 50 ∷ 32 ∷ 55 ∷ 48 ∷ 32 ∷ 50 ∷ 10
+    ∷ 101 ∷ 110 ∷ 100 ∷ 32 ∷ 56 ∷ 10 ∷ []
+unfolding listing shown lines line decimalIn hex hexDigit lookup spell faultDue leadIn ascii codes entryOf isCode filled element fair flaw paired rows extend negative cut plain leaf many done fields held items inside coded behind payload value front
+listed = refl

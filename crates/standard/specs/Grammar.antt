@@ -11,9 +11,13 @@ use Rattle.standard.specs.Tree.{Tree, node, Trees, none, more}
 use Rattle.standard.specs.Codes.{Scalar, constant, whole, small, raw, sized, Layout, described, scalar, compound, array, layoutOf, kindOf, element}
 use Rattle.standard.specs.Kinds.{fair, clean, paired, named}
 
+-- a byte of 128 or more, two's complement, in w bytes
+unfoldable pub negative : (width byte : ℕ) → ℕ
+negative w n = 256 ^ w - 256 + n
+
 -- a byte, two's complement, in w bytes
 unfoldable pub extend : (width byte : ℕ) → ℕ
-extend w n = if (ltb n 128) n (256 ^ w - 256 + n)
+extend w n = if (ltb n 128) n (negative w n)
 
 -- Bytes behind the code of a scalar, with the number and the text that they hold (docs/FORMAT.md, 4.2)
 pub data Plain : Scalar → (number : ℕ) → (text bytes : List ℕ) → Type 0 where

@@ -30,7 +30,7 @@ layoutIs (Compound w) = Codes.compound w
 layoutIs (Array w) = Codes.array w
 
 abbrev pub entryIs : (code : ℕ) → Entry → Codes.Entry
-entryIs c e = Codes.entry c (e .kind) (layoutIs (e .layout))
+entryIs c e = Codes.entry c (e .0) (layoutIs (e .1))
 
 abbrev pub shortIs : Short → Kinds.Short
 shortIs Never = Kinds.never

@@ -105,180 +105,53 @@ pub enum Layout {
     Array(usize),
 }
 
-// A format code's kind of row, and what stands behind it.
-pub struct Entry {
-    pub kind: u64,
-    pub layout: Layout,
-}
-
 // The kind of row that a code reads to, and what stands behind the code.
+pub struct Entry(pub u64, pub Layout);
+
 pub fn entry_of(code: u8) -> Entry
     ensures { λ r. ⌜ entryIs code r ≡ entryOf code ⌝ }
 {
     match code {
-        DESCRIBED => Entry {
-            kind: 0x00,
-            layout: Layout::Described,
-        },
-        NULL => Entry {
-            kind: 0x40,
-            layout: Layout::Whole(0),
-        },
-        TRUE => Entry {
-            kind: 0x56,
-            layout: Layout::Constant(1),
-        },
-        FALSE => Entry {
-            kind: 0x56,
-            layout: Layout::Constant(0),
-        },
-        UINT_0 => Entry {
-            kind: 0x70,
-            layout: Layout::Constant(0),
-        },
-        ULONG_0 => Entry {
-            kind: 0x80,
-            layout: Layout::Constant(0),
-        },
-        LIST_0 => Entry {
-            kind: 0xd0,
-            layout: Layout::Constant(0),
-        },
-        UBYTE => Entry {
-            kind: 0x50,
-            layout: Layout::Whole(1),
-        },
-        BYTE => Entry {
-            kind: 0x51,
-            layout: Layout::Whole(1),
-        },
-        SMALL_UINT => Entry {
-            kind: 0x70,
-            layout: Layout::Whole(1),
-        },
-        SMALL_ULONG => Entry {
-            kind: 0x80,
-            layout: Layout::Whole(1),
-        },
-        SMALL_INT => Entry {
-            kind: 0x71,
-            layout: Layout::Small(4),
-        },
-        SMALL_LONG => Entry {
-            kind: 0x81,
-            layout: Layout::Small(8),
-        },
-        BOOLEAN => Entry {
-            kind: 0x56,
-            layout: Layout::Whole(1),
-        },
-        USHORT => Entry {
-            kind: 0x60,
-            layout: Layout::Whole(2),
-        },
-        SHORT => Entry {
-            kind: 0x61,
-            layout: Layout::Whole(2),
-        },
-        UINT => Entry {
-            kind: 0x70,
-            layout: Layout::Whole(4),
-        },
-        INT => Entry {
-            kind: 0x71,
-            layout: Layout::Whole(4),
-        },
-        FLOAT => Entry {
-            kind: 0x72,
-            layout: Layout::Whole(4),
-        },
-        CHAR => Entry {
-            kind: 0x73,
-            layout: Layout::Whole(4),
-        },
-        DECIMAL_32 => Entry {
-            kind: 0x74,
-            layout: Layout::Whole(4),
-        },
-        ULONG => Entry {
-            kind: 0x80,
-            layout: Layout::Whole(8),
-        },
-        LONG => Entry {
-            kind: 0x81,
-            layout: Layout::Whole(8),
-        },
-        DOUBLE => Entry {
-            kind: 0x82,
-            layout: Layout::Whole(8),
-        },
-        TIMESTAMP => Entry {
-            kind: 0x83,
-            layout: Layout::Whole(8),
-        },
-        DECIMAL_64 => Entry {
-            kind: 0x84,
-            layout: Layout::Whole(8),
-        },
-        DECIMAL_128 => Entry {
-            kind: 0x94,
-            layout: Layout::Raw(16),
-        },
-        UUID => Entry {
-            kind: 0x98,
-            layout: Layout::Raw(16),
-        },
-        BINARY_8 => Entry {
-            kind: 0xb0,
-            layout: Layout::Sized(1),
-        },
-        STRING_8 => Entry {
-            kind: 0xb1,
-            layout: Layout::Sized(1),
-        },
-        SYMBOL_8 => Entry {
-            kind: 0xb3,
-            layout: Layout::Sized(1),
-        },
-        BINARY_32 => Entry {
-            kind: 0xb0,
-            layout: Layout::Sized(4),
-        },
-        STRING_32 => Entry {
-            kind: 0xb1,
-            layout: Layout::Sized(4),
-        },
-        SYMBOL_32 => Entry {
-            kind: 0xb3,
-            layout: Layout::Sized(4),
-        },
-        LIST_8 => Entry {
-            kind: 0xd0,
-            layout: Layout::Compound(1),
-        },
-        MAP_8 => Entry {
-            kind: 0xd1,
-            layout: Layout::Compound(1),
-        },
-        LIST_32 => Entry {
-            kind: 0xd0,
-            layout: Layout::Compound(4),
-        },
-        MAP_32 => Entry {
-            kind: 0xd1,
-            layout: Layout::Compound(4),
-        },
-        ARRAY_8 => Entry {
-            kind: 0xf0,
-            layout: Layout::Array(1),
-        },
-        ARRAY_32 => Entry {
-            kind: 0xf0,
-            layout: Layout::Array(4),
-        },
-        _ => Entry {
-            kind: 0,
-            layout: Layout::Unknown,
-        },
+        DESCRIBED => Entry(0x00, Layout::Described),
+        NULL => Entry(0x40, Layout::Whole(0)),
+        TRUE => Entry(0x56, Layout::Constant(1)),
+        FALSE => Entry(0x56, Layout::Constant(0)),
+        UINT_0 => Entry(0x70, Layout::Constant(0)),
+        ULONG_0 => Entry(0x80, Layout::Constant(0)),
+        LIST_0 => Entry(0xd0, Layout::Constant(0)),
+        UBYTE => Entry(0x50, Layout::Whole(1)),
+        BYTE => Entry(0x51, Layout::Whole(1)),
+        SMALL_UINT => Entry(0x70, Layout::Whole(1)),
+        SMALL_ULONG => Entry(0x80, Layout::Whole(1)),
+        SMALL_INT => Entry(0x71, Layout::Small(4)),
+        SMALL_LONG => Entry(0x81, Layout::Small(8)),
+        BOOLEAN => Entry(0x56, Layout::Whole(1)),
+        USHORT => Entry(0x60, Layout::Whole(2)),
+        SHORT => Entry(0x61, Layout::Whole(2)),
+        UINT => Entry(0x70, Layout::Whole(4)),
+        INT => Entry(0x71, Layout::Whole(4)),
+        FLOAT => Entry(0x72, Layout::Whole(4)),
+        CHAR => Entry(0x73, Layout::Whole(4)),
+        DECIMAL_32 => Entry(0x74, Layout::Whole(4)),
+        ULONG => Entry(0x80, Layout::Whole(8)),
+        LONG => Entry(0x81, Layout::Whole(8)),
+        DOUBLE => Entry(0x82, Layout::Whole(8)),
+        TIMESTAMP => Entry(0x83, Layout::Whole(8)),
+        DECIMAL_64 => Entry(0x84, Layout::Whole(8)),
+        DECIMAL_128 => Entry(0x94, Layout::Raw(16)),
+        UUID => Entry(0x98, Layout::Raw(16)),
+        BINARY_8 => Entry(0xb0, Layout::Sized(1)),
+        STRING_8 => Entry(0xb1, Layout::Sized(1)),
+        SYMBOL_8 => Entry(0xb3, Layout::Sized(1)),
+        BINARY_32 => Entry(0xb0, Layout::Sized(4)),
+        STRING_32 => Entry(0xb1, Layout::Sized(4)),
+        SYMBOL_32 => Entry(0xb3, Layout::Sized(4)),
+        LIST_8 => Entry(0xd0, Layout::Compound(1)),
+        MAP_8 => Entry(0xd1, Layout::Compound(1)),
+        LIST_32 => Entry(0xd0, Layout::Compound(4)),
+        MAP_32 => Entry(0xd1, Layout::Compound(4)),
+        ARRAY_8 => Entry(0xf0, Layout::Array(1)),
+        ARRAY_32 => Entry(0xf0, Layout::Array(4)),
+        _ => Entry(0, Layout::Unknown),
     }
 }

@@ -11,9 +11,9 @@ use Rattle.standard.specs.Bytes.{be, unbe}
 use Rattle.standard.specs.Tree.{Tree, node, Trees, none, more, root, count}
 use Rattle.standard.specs.Codes.{Scalar, constant, whole, small, raw, sized, Layout, described, scalar, compound, array, entry, codes, entryOf, layoutOf, kindOf, filled, element}
 use Rattle.standard.specs.Kinds.{Short, never, flag, unsigned, signed, Style, foreign, numbered, blob, lettered, listed, mapped, arrayed, describing, Kind, kind, kinds, styleOf, plain, fair, clean, paired, named}
-use Rattle.standard.specs.Grammar.{extend, Plain, constant′, whole′, small′, raw′, sized′, Many, none′, more′, Leaf, leaf′, Fields, fields′, Coded, coded′, Items, empty′, items′, Shape, scalar′, described′, compound′, array′, Payload, Form, Formed}
+use Rattle.standard.specs.Grammar.{extend, negative, Plain, constant′, whole′, small′, raw′, sized′, Many, none′, more′, Leaf, leaf′, Fields, fields′, Coded, coded′, Items, empty′, items′, Shape, scalar′, described′, compound′, array′, Payload, Form, Formed}
 use Rattle.standard.specs.Table.{most, Spot, any, first, like, allowed, ranged, letters, children, firstIn, next, Row, All, Valid}
-use Rattle.standard.specs.Encode.{fitsByte, shortest, enclosed, compact, wide, headed, encode, encode*, item, payloads}
+use Rattle.standard.specs.Encode.{fitsByte, shortEnd, shortest, enclosed, compact, wide, headed, encode, encode*, item, payloads}
 use Rattle.standard.specs.Laws.Answers.{and-left, and-right, if-case}
 use Rattle.standard.specs.Laws.Numbers.{length-be, unbe-be, low-byte}
 
@@ -104,24 +104,24 @@ four n h = unbe-be 4 n h
 
 enclosed-length : (s k n : ℕ) (b : List ℕ) → length b ≤ length (enclosed s k n b)
 unfolding enclosed
-enclosed-length s k n b = if-case (λ (x : List ℕ). length b ≤ length x) (ltb (length b) 255) _ _
+enclosed-length s k n b = if-case (λ (x : List ℕ). length b ≤ length x) (ltb (length b) shortEnd) _ _
     (λ t. omega (arith, length-append (s ∷ be 1 (1 + length b) ++ be 1 n) b)) (λ t. omega (arith, length-append (k ∷ be 4 (4 + length b) ++ be 4 n) b))
 
 enclosed-case : (P : List ℕ → Type 0) (s k n : ℕ) (b : List ℕ) → n ≤ length b → length (enclosed s k n b) ≤ most
     → ((hs : List ℕ) → Fields 1 n hs b → P (s ∷ hs ++ b)) → ((hs : List ℕ) → Fields 4 n hs b → P (k ∷ hs ++ b)) → P (enclosed s k n b)
 unfolding enclosed
-enclosed-case P s k n b h m f g = if-case P (ltb (length b) 255) _ _
-    (λ t. f (be 1 (1 + length b) ++ be 1 n) (fields′ (be 1 (1 + length b)) (be 1 n) (length-be 1 (1 + length b)) (length-be 1 n) (unbe-be 1 (1 + length b) (omega (arith, ltb→lt (length b) 255 t))) (unbe-be 1 n (omega (arith, ltb→lt (length b) 255 t)))))
+enclosed-case P s k n b h m f g = if-case P (ltb (length b) shortEnd) _ _
+    (λ t. f (be 1 (1 + length b) ++ be 1 n) (fields′ (be 1 (1 + length b)) (be 1 n) (length-be 1 (1 + length b)) (length-be 1 n) (unbe-be 1 (1 + length b) (omega (arith, ltb→lt (length b) shortEnd t))) (unbe-be 1 n (omega (arith, ltb→lt (length b) shortEnd t)))))
     (λ t. g (be 4 (4 + length b) ++ be 4 n) (fields′ (be 4 (4 + length b)) (be 4 n) (length-be 4 (4 + length b)) (length-be 4 n) (four (4 + length b) (omega (arith, enclosed-length s k n b))) (four n (omega (arith, enclosed-length s k n b)))))
 
 -- Numbers
 
 short-signed : (w n : ℕ) → 0 < w → n < 256 ^ w → T (fitsByte w n) → extend w (unbe (be 1 n)) ≡ n
-unfolding fitsByte extend
+unfolding fitsByte extend negative
 short-signed zero n h i t = absurd (omega arith)
 short-signed (suc w) n h i t = go (ltb n 128) refl t (ltb (unbe (be 1 n)) 128) refl
   where
-    go : (y : Bool) → ltb n 128 ≡ y → T (y || leb (256 ^ suc w - 128) n) → (x : Bool) → ltb (unbe (be 1 n)) 128 ≡ x → if x (unbe (be 1 n)) (256 ^ suc w - 256 + unbe (be 1 n)) ≡ n
+    go : (y : Bool) → ltb n 128 ≡ y → T (y || leb (256 ^ suc w - 128) n) → (x : Bool) → ltb (unbe (be 1 n)) 128 ≡ x → if x (unbe (be 1 n)) (negative (suc w) (unbe (be 1 n))) ≡ n
     go true e t true f = omega (arith, low-byte n, ltb→lt n 128 (rw e tt))
     go true e t false f = omega (arith, low-byte n, ltb→lt n 128 (rw e tt), nltb→le (unbe (be 1 n)) 128 (rw f tt))
     go false e t true f = omega (arith, low-byte n, leb→le (256 ^ suc w - 128) n t, ltb→lt (unbe (be 1 n)) 128 (rw f tt))
@@ -202,8 +202,8 @@ compact-form (numbered s w) l k n t cs b a g r m f e =
     (number-form s l k w n (g .0) (g .1) (ltb→lt n (256 ^ w) (and-left (ltb n (256 ^ w)) (fair k n) (r .inRange))) (and-right (ltb n (256 ^ w)) (fair k n) (r .inRange)) (rw d at (r .good)))
 compact-form (blob w) l k n t cs b a g r m f e = rw (eqb→eq n 0 (r .inRange), no-children cs (r .full)) (form l (g .0) (scalar′ (leaf′ (raw′ (r .long)) (g .1) (r .good))))
 compact-form (lettered s) l k n t cs b a g r m f e =
-    if-case (λ x. length x ≤ most → Form (suc l) (node k n t cs) x) (ltb n 255) _ _
-    (λ i j. rw (no-children cs (r .full)) (form l (g .0) (scalar′ (leaf′ (sized′ (be 1 n) (length-be 1 n) (unbe-be 1 n (omega (arith, ltb→lt n 255 i))) (r .long)) (g .2 n) (r .good)))))
+    if-case (λ x. length x ≤ most → Form (suc l) (node k n t cs) x) (ltb n shortEnd) _ _
+    (λ i j. rw (no-children cs (r .full)) (form l (g .0) (scalar′ (leaf′ (sized′ (be 1 n) (length-be 1 n) (unbe-be 1 n (omega (arith, ltb→lt n shortEnd i))) (r .long)) (g .2 n) (r .good)))))
     (λ i j. rw (no-children cs (r .full)) (form l (g .1) (scalar′ (leaf′ (sized′ (be 4 n) (length-be 4 n) (four n (omega (arith, leb→le n most (r .inRange)))) (r .long)) (g .2 n) (r .good))))) m
 compact-form (listed z s) l k n t cs b a g r m f e =
     let d : t ≡ [] = no-text t (r .long) in
