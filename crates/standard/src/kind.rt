@@ -1,6 +1,9 @@
 // The 25 kinds of rows, and what a row of each holds (docs/FORMAT.md, 2.2).
 ghost use mathlib.Core.Path.{_≡_};
-ghost use Rattle.standard.specs.Kinds.{styleOf};
+ghost use Prim.Native.Nat.{_^_};
+ghost use lib.Dec.{ltb};
+ghost use Rattle.standard.specs.Kinds.{styleOf, plain, fair};
+ghost use Rattle.standard.specs.Table.{ranged, letters, children};
 ghost use Rattle.standard.specs.InCode.{styleIs};
 use crate::format_code;
 
@@ -69,5 +72,120 @@ pub fn style_of(kind: u64) -> Style
         0xd1 => Style::Mapped(format_code::MAP_8),
         0xf0 => Style::Arrayed(format_code::ARRAY_8),
         _ => Style::Foreign,
+    }
+}
+
+// The writer's limit on lengths, counts and bytes.
+pub const MOST: u64 = 0x10_0000;
+
+// Is a boolean 0 or 1, and a char no surrogate and at most 0x10ffff. Every other number is fair.
+pub fn is_fair(kind: u64, number: u64) -> bool
+    ensures { λ r. ⌜ r ≡ fair kind number ⌝ }
+{
+    if kind == 0x56 {
+        return number <= 1;
+    }
+    if kind == 0x73 {
+        if number <= 0xd7ff {
+            return true;
+        }
+        if number < 0xe000 {
+            return false;
+        }
+        return number <= 0x10ffff;
+    }
+    true
+}
+
+// Does a number fit so many bytes.
+pub fn fits_width(number: u64, width: usize) -> bool
+    ensures { λ r. ⌜ r ≡ ltb number (256 ^ width) ⌝ }
+{
+    match width {
+        0 => number < 1,
+        1 => number < 0x100,
+        2 => number < 0x1_0000,
+        3 => number < 0x100_0000,
+        4 => number < 0x1_0000_0000,
+        5 => number < 0x100_0000_0000,
+        6 => number < 0x1_0000_0000_0000,
+        7 => number < 0x100_0000_0000_0000,
+        _ => true,
+    }
+}
+
+impl Style {
+    // May a row of this style be an element of an array.
+    pub fn is_plain(self) -> bool
+        ensures { λ r. ⌜ r ≡ plain (styleIs self) ⌝ }
+    {
+        match self {
+            Style::Foreign => false,
+            Style::Numbered(_, width) => 1 <= width,
+            Style::Blob(width) => 1 <= width,
+            Style::Lettered(_) => true,
+            Style::Listed(_, _) => false,
+            Style::Mapped(_) => false,
+            Style::Arrayed(_) => false,
+            Style::Describing => false,
+        }
+    }
+
+    // How many bytes of text belong to a row of this style.
+    pub fn letters(self, number: u64) -> u64
+        ensures { λ r. ⌜ r ≡ letters (styleIs self) number ⌝ }
+    {
+        match self {
+            Style::Foreign => 0,
+            Style::Numbered(_, _) => 0,
+            Style::Blob(width) => width as u64,
+            Style::Lettered(_) => number,
+            Style::Listed(_, _) => 0,
+            Style::Mapped(_) => 0,
+            Style::Arrayed(_) => 0,
+            Style::Describing => 0,
+        }
+    }
+
+    // How many children belong to a row of this style.
+    pub fn children(self, number: u64) -> u64
+        ensures { λ r. ⌜ r ≡ children (styleIs self) number ⌝ }
+    {
+        match self {
+            Style::Foreign => 0,
+            Style::Numbered(_, _) => 0,
+            Style::Blob(_) => 0,
+            Style::Lettered(_) => 0,
+            Style::Listed(_, _) => number,
+            Style::Mapped(_) => number,
+            Style::Arrayed(_) => number,
+            Style::Describing => number,
+        }
+    }
+
+    // Is a number in the table's range for its kind, which is of this style.
+    pub fn takes(self, kind: u64, number: u64) -> bool
+        ensures { λ r. ⌜ r ≡ ranged (styleIs self) kind number ⌝ }
+    {
+        match self {
+            Style::Foreign => false,
+            Style::Numbered(_, width) => {
+                if fits_width(number, width) {
+                    return is_fair(kind, number);
+                }
+                false
+            }
+            Style::Blob(_) => number == 0,
+            Style::Lettered(_) => number <= MOST,
+            Style::Listed(_, _) => number <= MOST,
+            Style::Mapped(_) => {
+                if number <= MOST {
+                    return number % 2 == 0;
+                }
+                false
+            }
+            Style::Arrayed(_) => number <= MOST,
+            Style::Describing => number == 2,
+        }
     }
 }

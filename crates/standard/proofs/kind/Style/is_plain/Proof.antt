@@ -1,0 +1,27 @@
+-- `is_plain` says which styles an array may hold.
+use borrow.Author.Needs.{needs}
+use Rattle.standard.specs.Kinds.{plain}
+use Rattle.standard.proofs.kind.Style.is_plain.Statement.{statement}
+use Rattle.standard.proofs.kind.Style.is_plain.Tie as tie
+
+pub is-plain-spec : {M : Type 1} → statement M
+unfolding plain
+is-plain-spec =
+    tie.close
+    (tie.spec
+    (λ c. search needs)
+    (λ c. search needs)
+    (λ c. search needs)
+    (λ c. search needs)
+    (λ c. search needs)
+    (λ c. search needs)
+    (λ c. search needs)
+    (λ c. search needs)
+    (λ c. rw (c .enum-told .given .1))
+    (λ c. rw (c .before .self .given .1))
+    (λ c. rw (c .before .self2 .given .1))
+    (λ c. rw (c .enum-told2 .given .1))
+    (λ c. rw (c .enum-told3 .given .1))
+    (λ c. rw (c .enum-told4 .given .1))
+    (λ c. rw (c .enum-told5 .given .1))
+    (λ c. rw (c .enum-told6 .given .1)))

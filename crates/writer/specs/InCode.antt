@@ -1,0 +1,1 @@
+-- What the writer's own types say, in the terms of the definitions.
