@@ -83,6 +83,20 @@ pub const ARRAY_8: u8 = 0xe0;
 
 pub const ARRAY_32: u8 = 0xf0;
 
+// A list, a map or an array whose size and count have one byte each.
+pub struct Compound8;
+
+impl Compound8 {
+    pub const COUNT_WIDTH: usize = 1;
+}
+
+// A list, a map or an array whose size and count have four bytes each.
+pub struct Compound32;
+
+impl Compound32 {
+    pub const COUNT_WIDTH: usize = 4;
+}
+
 // What stands behind a format code.
 pub enum Layout {
     // No format code.
@@ -146,12 +160,12 @@ pub fn entry_of(code: u8) -> Entry
         BINARY_32 => Entry(0xb0, Layout::Sized(4)),
         STRING_32 => Entry(0xb1, Layout::Sized(4)),
         SYMBOL_32 => Entry(0xb3, Layout::Sized(4)),
-        LIST_8 => Entry(0xd0, Layout::Compound(1)),
-        MAP_8 => Entry(0xd1, Layout::Compound(1)),
-        LIST_32 => Entry(0xd0, Layout::Compound(4)),
-        MAP_32 => Entry(0xd1, Layout::Compound(4)),
-        ARRAY_8 => Entry(0xf0, Layout::Array(1)),
-        ARRAY_32 => Entry(0xf0, Layout::Array(4)),
+        LIST_8 => Entry(0xd0, Layout::Compound(Compound8::COUNT_WIDTH)),
+        MAP_8 => Entry(0xd1, Layout::Compound(Compound8::COUNT_WIDTH)),
+        LIST_32 => Entry(0xd0, Layout::Compound(Compound32::COUNT_WIDTH)),
+        MAP_32 => Entry(0xd1, Layout::Compound(Compound32::COUNT_WIDTH)),
+        ARRAY_8 => Entry(0xf0, Layout::Array(Compound8::COUNT_WIDTH)),
+        ARRAY_32 => Entry(0xf0, Layout::Array(Compound32::COUNT_WIDTH)),
         _ => Entry(0, Layout::Unknown),
     }
 }

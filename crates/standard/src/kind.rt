@@ -1,8 +1,9 @@
 // The 25 kinds of rows, and what a row of each holds (docs/FORMAT.md, 2.2).
 ghost use mathlib.Core.Path.{_≡_};
-ghost use Prim.Native.Nat.{_^_};
+ghost use Prim.Native.Nat.{_-_, _^_, _≤_};
 ghost use lib.Dec.{ltb};
 ghost use Rattle.standard.specs.Kinds.{styleOf, plain, fair};
+ghost use Rattle.standard.specs.Encode.{fitsByte};
 ghost use Rattle.standard.specs.Table.{ranged, letters, children};
 ghost use Rattle.standard.specs.InCode.{styleIs};
 use crate::format_code;
@@ -112,6 +113,37 @@ pub fn fits_width(number: u64, width: usize) -> bool
         7 => number < 0x100_0000_0000_0000,
         _ => true,
     }
+}
+
+// The least number of so many bytes that is −128 or more in two's complement.
+fn least_negative(width: usize) -> u64
+    requires { ⌜ width ≤ 8 ⌝ }
+    ensures { λ r. ⌜ r ≡ 256 ^ width - 128 ⌝ }
+{
+    match width {
+        0 => 0,
+        1 => 0x80,
+        2 => 0xff80,
+        3 => 0xff_ff80,
+        4 => 0xffff_ff80,
+        5 => 0xff_ffff_ff80,
+        6 => 0xffff_ffff_ff80,
+        7 => 0xff_ffff_ffff_ff80,
+        _ => 0xffff_ffff_ffff_ff80,
+    }
+}
+
+// Does a number of so many bytes, two's complement, fit one byte: from −128 to 127.
+pub fn fits_byte(number: u64, width: usize) -> bool
+    ensures { λ r. ⌜ r ≡ fitsByte width number ⌝ }
+{
+    if number < 128 {
+        return true;
+    }
+    if 8 < width {
+        return false;
+    }
+    least_negative(width) <= number
 }
 
 impl Style {

@@ -3,12 +3,12 @@
 use Prim.Native.Nat.{ℕ, zero, suc, _+_, _*_, _%_, _≤_}
 use mathlib.Core.Path.{_≡_}
 use mathlib.Core.List.{List, [], _∷_, _++_}
-use lib.ListN.{length, take, drop}
+use lib.ListN.{length, take, drop, getD}
 use lib.Seq.{sets}
-use Rattle.standard.specs.Bytes.{unbe}
+use Rattle.standard.specs.Bytes.{be, unbe}
 use Rattle.standard.specs.Kinds.{Style, foreign, numbered, blob, lettered, listed, mapped, arrayed, describing, styleOf}
 use Rattle.standard.specs.Table.{letters}
-use Rattle.writer.specs.Heads.{head, itemHead}
+use Rattle.writer.specs.Heads.{head, itemWidth}
 use Rattle.writer.specs.Sizing.{markWidth}
 use Rattle.writer.specs.declared.filling.Cursor.{Cursor}
 
@@ -33,7 +33,7 @@ elementCode (suc e) (k ∷ w) = (k % 256) ∷ []
 unfoldable pub own : (elements kind number : ℕ) → (words text marks : List ℕ) → List ℕ
 own zero k n w x m =
     head (styleOf k) (k % 256) n (unbe (take (markWidth (styleOf k) n) m)) ++ take (letters (styleOf k) n) x ++ elementCode (elementsOf (styleOf k) n) w
-own (suc e) k n w x m = itemHead (styleOf k) n ++ take (letters (styleOf k) n) x
+own (suc e) k n w x m = be (itemWidth (styleOf k)) n ++ take (letters (styleOf k) n) x
 
 -- how many elements are due behind it, and how wide its mark is
 unfoldable pub due : (elements kind number : ℕ) → ℕ
@@ -70,10 +70,32 @@ pub record Fillable (words text out : List ℕ) (n mark : ℕ) : Type 0 where
   pub marked : mark + boxed 0 words ≡ n
   pub texts : lettersIn words ≡ length text
 
--- what a row at a cursor may ask for
+abbrev pub fresh : (mark : ℕ) → Cursor
+fresh m = record { row = 0; text = 0; at = 0; mark = m; elements = 0 }
+
+-- the kind and the number of the row at a cursor, and its bytes
+abbrev pub kindAt : (words : List ℕ) → Cursor → ℕ
+kindAt w c = getD w (2 * (c .row)) 0
+
+abbrev pub numberAt : (words : List ℕ) → Cursor → ℕ
+numberAt w c = getD w (2 * (c .row) + 1) 0
+
+abbrev pub ownAt : (words text out : List ℕ) → (n : ℕ) → Cursor → List ℕ
+ownAt w x o n c = own (c .elements) (kindAt w c) (numberAt w c) (drop (2 * (c .row) + 2) w) (drop (c .text) x) (drop (c .mark) (take n o))
+
+-- Before a row: there is one, with room for its bytes, its text and its mark
 pub record Ready (words text out : List ℕ) (n : ℕ) (c : Cursor) : Type 0 where
   pub row : 2 * (c .row) + 2 ≤ length words
-  pub room : n ≤ length out
-  pub bytes : c .at + length (flat (c .elements) (drop (2 * (c .row)) words) (drop (c .text) text) (drop (c .mark) (take n out))) ≡ n
-  pub marked : c .mark + boxed (c .elements) (drop (2 * (c .row)) words) ≡ n
-  pub texts : c .text + lettersIn (drop (2 * (c .row)) words) ≡ length text
+  pub room : c .at + length (ownAt words text out n c) ≤ length out
+  pub marked : c .mark + markOf (c .elements) (kindAt words c) (numberAt words c) ≤ n
+  pub texts : c .text + letters (styleOf (kindAt words c)) (numberAt words c) ≤ length text
+  pub inside : n ≤ length out
+
+-- After it: its bytes are written, and the cursor stands at the next
+pub record Stepped (words text out : List ℕ) (n : ℕ) (c : Cursor) (after : List ℕ) (r : Cursor) : Type 0 where
+  pub bytes : after ≡ sets out (c .at) (ownAt words text out n c)
+  pub row : r .row ≡ c .row + 1
+  pub text : r .text ≡ c .text + letters (styleOf (kindAt words c)) (numberAt words c)
+  pub place : r .at ≡ c .at + length (ownAt words text out n c)
+  pub mark : r .mark ≡ c .mark + markOf (c .elements) (kindAt words c) (numberAt words c)
+  pub elements : r .elements ≡ due (c .elements) (kindAt words c) (numberAt words c)

@@ -9,6 +9,7 @@ use Rattle.standard.specs.Bytes.{be}
 use Rattle.standard.specs.Tree.{Trees}
 use Rattle.standard.specs.Kinds.{Style, foreign, numbered, blob, lettered, listed, mapped, arrayed, describing}
 use Rattle.standard.specs.Encode.{shortEnd, shortest, headed, encode*, payloads}
+use Rattle.writer.specs.declared.head.Head.{Head}
 
 -- code, size and count before a body of so many bytes
 unfoldable pub enclosure : (short wide count body : ℕ) → List ℕ
@@ -16,7 +17,7 @@ enclosure s k n b = if (ltb b shortEnd) (s ∷ be 1 (1 + b) ++ be 1 n) (k ∷ be
 
 -- before the text of a value whose body has so many bytes
 unfoldable pub head : Style → (kind number body : ℕ) → List ℕ
-head foreign k n b = []
+head foreign k n b = k ∷ []
 head (numbered s w) k n b = shortest s w k n
 head (blob w) k n b = k ∷ []
 head (lettered s) k n b = if (ltb n shortEnd) (s ∷ be 1 n) (k ∷ be 4 n)
@@ -25,16 +26,16 @@ head (mapped s) k n b = enclosure s k n b
 head (arrayed s) k n b = enclosure s k n b
 head describing k n b = k ∷ []
 
--- before the text of an element of an array
-unfoldable pub itemHead : Style → (number : ℕ) → List ℕ
-itemHead foreign n = []
-itemHead (numbered s w) n = be w n
-itemHead (blob w) n = []
-itemHead (lettered s) n = be 4 n
-itemHead (listed e s) n = []
-itemHead (mapped s) n = []
-itemHead (arrayed s) n = []
-itemHead describing n = []
+-- the width of the number before the text of an element of an array
+unfoldable pub itemWidth : Style → ℕ
+itemWidth foreign = 0
+itemWidth (numbered s w) = w
+itemWidth (blob w) = 0
+itemWidth (lettered s) = 4
+itemWidth (listed e s) = 0
+itemWidth (mapped s) = 0
+itemWidth (arrayed s) = 0
+itemWidth describing = 0
 
 -- the bytes of a row's children: an array's stand behind their code
 unfoldable pub bodyOf : Style → Trees → List ℕ
@@ -50,3 +51,6 @@ bodyOf describing cs = encode* cs
 -- a code and up to two numbers, with their widths
 abbrev pub fields : (code width number countWidth count : ℕ) → List ℕ
 fields c w x v y = c ∷ be w x ++ be v y
+
+abbrev pub headIs : Head → List ℕ
+headIs h = fields (h .code) (h .width) (h .number) (h .«count_width») (h .count)
