@@ -1,2 +1,4 @@
 pub mod Lookup
 pub mod Widths
+pub mod Sequences
+pub mod Ascii

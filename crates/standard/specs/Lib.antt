@@ -13,5 +13,6 @@ pub mod Encode
 pub mod Outcomes
 pub mod Listing
 pub mod InCode
+pub mod TextSteps
 pub mod Laws
 pub mod Examples

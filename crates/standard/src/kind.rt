@@ -2,7 +2,7 @@
 ghost use mathlib.Core.Path.{_≡_};
 ghost use Prim.Native.Nat.{_-_, _^_, _≤_};
 ghost use lib.Dec.{ltb};
-ghost use Rattle.standard.specs.Kinds.{styleOf, plain, fair};
+ghost use Rattle.standard.specs.Kinds.{styleOf, isKind, plain, fair};
 ghost use Rattle.standard.specs.Encode.{fitsByte};
 ghost use Rattle.standard.specs.Table.{ranged, letters, children};
 ghost use Rattle.standard.specs.InCode.{styleIs};
@@ -147,6 +147,21 @@ pub fn fits_byte(number: u64, width: usize) -> bool
 }
 
 impl Style {
+    pub fn is_kind(self) -> bool
+        ensures { λ r. ⌜ r ≡ isKind (styleIs self) ⌝ }
+    {
+        match self {
+            Style::Foreign => false,
+            Style::Numbered(_, _) => true,
+            Style::Blob(_) => true,
+            Style::Lettered(_) => true,
+            Style::Listed(_, _) => true,
+            Style::Mapped(_) => true,
+            Style::Arrayed(_) => true,
+            Style::Describing => true,
+        }
+    }
+
     // May a row of this style be an element of an array.
     pub fn is_plain(self) -> bool
         ensures { λ r. ⌜ r ≡ plain (styleIs self) ⌝ }

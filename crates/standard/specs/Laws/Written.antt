@@ -255,15 +255,15 @@ element-ok (mapped s) k h t = absurd t
 element-ok (arrayed s) k h t = absurd t
 element-ok describing k h t = absurd t
 
-abbrev AllOf : (kind : ℕ) → Trees → Type 0
+abbrev pub AllOf : (kind : ℕ) → Trees → Type 0
 AllOf k none = Unit {0}
 AllOf k (more v vs) = (root v ≡ k) × AllOf k vs
 
-spot-of : (l : ℕ) (c : Spot) (v : Tree) → Valid l c v → T (allowed c (root v))
+pub spot-of : (l : ℕ) (c : Spot) (v : Tree) → Valid l c v → T (allowed c (root v))
 spot-of zero c v h = absurd h
 spot-of (suc l) c (node k n t cs) h = h .0 .fits
 
-alike : (l k : ℕ) (vs : Trees) → All (λ d v. Valid l d v) (like k) vs → AllOf k vs
+pub alike : (l k : ℕ) (vs : Trees) → All (λ d v. Valid l d v) (like k) vs → AllOf k vs
 unfolding next allowed
 alike l k none h = tt
 alike l k (more (node j n t cs) vs) h = (eqb→eq j k (spot-of l (like k) (node j n t cs) (h .0)), alike l k vs (h .1))

@@ -1,1 +1,0 @@
--- What the writer's own types say, in the terms of the definitions.

@@ -1,6 +1,0 @@
--- What the writer's functions are held to, beside the definitions of `standard`.
-pub mod Heads
-pub mod Rows
-pub mod Sizing
-pub mod Filling
-pub mod InCode
