@@ -54,6 +54,7 @@ fn byte_at(text: &[u8], at: usize, lo: u8, hi: u8) -> bool
     lo <= text[at] && text[at] <= hi
 }
 
+// UTF8-tail.
 fn tail_at(text: &[u8], at: usize) -> bool
     ensures { λ r. ⌜ r ≡ stand (tail ∷ []) (drop at (now (text .entry))) ⌝ }
 {
@@ -88,7 +89,8 @@ fn sequence_at(text: &[u8], at: usize) -> usize
     }
 }
 
-// Whether 16 bytes of ASCII stand there: their highest tells. The loop has no way out, so that the compiler compares the bytes at once.
+// Whether 16 bytes of ASCII stand there: their highest tells.
+// No byte ends the loop early, so that the compiler compares all 16 at once.
 fn ascii_block(text: &[u8], at: usize) -> bool
     ensures { λ r. ⌜ r ≡ leb 16 (asciiRun (drop at (now (text .entry)))) ⌝ }
 {
@@ -132,6 +134,7 @@ fn past_ascii(text: &[u8], start: usize) -> usize
     at
 }
 
+// The first fault of a string.
 pub fn utf8_fault(text: &[u8]) -> Fault
     ensures { λ r. ⌜ faultIs r ≡ faultIn utf8 (now (text .entry)) ⌝ }
 {
@@ -150,6 +153,7 @@ pub fn utf8_fault(text: &[u8]) -> Fault
     Fault::Flawless
 }
 
+// The first fault of a symbol.
 pub fn ascii_fault(text: &[u8]) -> Fault
     ensures { λ r. ⌜ faultIs r ≡ faultIn ascii (now (text .entry)) ⌝ }
 {

@@ -6,6 +6,7 @@ use Rattle.standard.proofs.Sequences.{past, below, here}
 use Rattle.standard.proofs.text.lead_of.Statement.{statement}
 use Rattle.standard.proofs.text.lead_of.Tie as tie
 
+-- 0xe0, 0xed, 0xf0 and 0xf4
 returns : tie.Need-returns
 unfolding leadIn utf8
 returns c = rw (c .match .keys1)
@@ -22,6 +23,7 @@ returns-4 : tie.Need-returns-4
 unfolding leadIn utf8
 returns-4 c = rw (c .match .keys4)
 
+-- the ranges, in the order of the rows
 returns-5 : tie.Need-returns-5
 unfolding utf8
 returns-5 c = sym (here _ _ (c .before .before .args .b) (omega arith) (omega arith))
@@ -42,6 +44,7 @@ returns-9 : tie.Need-returns-9
 unfolding utf8
 returns-9 c = sym (past 7 utf8 (c .before .before .before .before .before .before .before .args .b) (omega arith) ∙ here _ _ (c .before .before .before .before .before .before .before .args .b) (omega arith) (omega arith))
 
+-- 0x80 to 0xc1, and from 0xf5 on
 returns-10 : tie.Need-returns-10
 unfolding utf8
 returns-10 c = sym (past 1 utf8 (c .before .before .before .args .b) (omega arith) ∙ below _ (c .before .before .before .args .b) (omega arith))
