@@ -14,7 +14,7 @@ use Rattle.standard.specs.Laws.Answers.{T-true, Holds, yes′, no′, on
 use Rattle.standard.specs.Laws.Bounds.{rows-length}
 
 -- f takes each value that P says, whatever rows and text stand behind
-abbrev Complete : (Spot → ℕ → List ℕ → List ℕ → Answer (Tree × List ℕ × List ℕ)) → (Spot → Tree → Type 0) → Type 0
+abbrev pub Complete : (Spot → ℕ → List ℕ → List ℕ → Answer (Tree × List ℕ × List ℕ)) → (Spot → Tree → Type 0) → Type 0
 Complete f P = (c : Spot) (v : Tree) → P c v → (i : ℕ) (r x : List ℕ) → f c i (rows v ++ r) (text v ++ x) ≡ got (v, r, x)
 
 several-complete : (P : Spot → Tree → Type 0) (f : Spot → ℕ → List ℕ → List ℕ → Answer (Tree × List ℕ × List ℕ)) → Complete f P
@@ -33,7 +33,7 @@ letter-at : (i w : ℕ) (a b : List ℕ) → length a ≡ w → letter i w (a ++
 unfolding letter
 letter-at i w a b e = rw (T-true (leb w (length (a ++ b))) (le→leb w (length (a ++ b)) (rw length-append (omega arith))), take-at a b w e, drop-at a b w e)
 
-tree-complete : (l : ℕ) → Complete (λ c i w x. tree l c i w x) (Valid l)
+pub tree-complete : (l : ℕ) → Complete (λ c i w x. tree l c i w x) (Valid l)
 unfolding tree row rows text
 tree-complete zero c v h i r x = absurd h
 tree-complete (suc l) c (node k n t cs) h i r x =
@@ -49,10 +49,10 @@ tree-complete (suc l) c (node k n t cs) h i r x =
     )
 
 -- f takes only what P says
-abbrev Sound : (Spot → ℕ → List ℕ → List ℕ → Answer (Tree × List ℕ × List ℕ)) → (Spot → Tree → Type 0) → Type 0
+abbrev pub Sound : (Spot → ℕ → List ℕ → List ℕ → Answer (Tree × List ℕ × List ℕ)) → (Spot → Tree → Type 0) → Type 0
 Sound f P = (c : Spot) (i : ℕ) (w x : List ℕ) → Holds (λ y. (w ≡ rows (y .0) ++ y .1) × (x ≡ text (y .0) ++ y .2) × P c (y .0)) (f c i w x)
 
-several-sound : (P : Spot → Tree → Type 0) (f : Spot → ℕ → List ℕ → List ℕ → Answer (Tree × List ℕ × List ℕ)) → Sound f P
+pub several-sound : (P : Spot → Tree → Type 0) (f : Spot → ℕ → List ℕ → List ℕ → Answer (Tree × List ℕ × List ℕ)) → Sound f P
     → (n : ℕ) (c : Spot) (i : ℕ) (w x : List ℕ) → Holds (λ y. (w ≡ rows* (y .0) ++ y .1) × (x ≡ text* (y .0) ++ y .2) × (count (y .0) ≡ n) × All P c (y .0)) (several f c n i w x)
 unfolding several count rows text
 several-sound P f g zero c i w x = yes′ (refl, refl, refl, tt)
@@ -63,7 +63,7 @@ letter-sound : (i w : ℕ) (x : List ℕ) → Holds (λ y. (x ≡ y .0 ++ y .1) 
 unfolding letter
 letter-sound i w x = on (need-holds (leb w (length x)) textAmiss (at i)) (λ u t. yes′ (sym (take-append-drop w x), length-take-le w x (leb→le w (length x) t)))
 
-tree-sound : (l : ℕ) → Sound (λ c i w x. tree l c i w x) (Valid l)
+pub tree-sound : (l : ℕ) → Sound (λ c i w x. tree l c i w x) (Valid l)
 unfolding tree row rows text
 tree-sound zero c i [] x = no′
 tree-sound zero c i (k ∷ []) x = no′

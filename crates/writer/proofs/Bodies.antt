@@ -1,0 +1,191 @@
+-- A value is its head, its text and its body; an element of an array is its number and its text.
+use Prim.Native.Nat.{ℕ, zero, suc, _+_, _*_, _-_, _%_, _^_, _≤_, _<_}
+use mathlib.Core.Path.{_≡_, refl, sym, ap, _∙_}
+use mathlib.Core.List.{List, [], _∷_, _++_, append-assoc, append-nil}
+use mathlib.Core.Bool.{Bool, true, false, _&&_}
+use native.Mathlib.Omega.{arith}
+use lib.Dec.{T, eqb, leb, ltb, eqb→eq, ltb→lt, leb→le, lit≤}
+use lib.ListN.{length, length-append}
+use Rattle.standard.specs.Choose.{if, lookup}
+use Rattle.standard.specs.Bytes.{be, unbe, spell}
+use Rattle.standard.specs.Tree.{Tree, node, Trees, none, more, count}
+use Rattle.standard.specs.Kinds.{Short, never, flag, unsigned, signed, Kind, kind, kinds, Style, foreign, numbered, blob, lettered, listed, mapped, arrayed, describing, styleOf, isKind, plain}
+use Rattle.standard.specs.Table.{letters, children}
+use Rattle.standard.specs.Encode.{fitsByte, shortEnd, shortest, enclosed, compact, wide, headed, encode, encode*, item, payloads}
+use Rattle.standard.specs.Laws.Answers.{if-case, and-left, and-right}
+use Rattle.standard.specs.Laws.Numbers.{length-be, unbe-be}
+use Rattle.standard.specs.Laws.Written.{no-children, no-text}
+use Rattle.writer.specs.Heads.{enclosure, head, itemWidth, bodyOf, headIs}
+use Rattle.writer.specs.declared.head.Head.{Head}
+use Rattle.writer.specs.Marks.{markWidth}
+
+enclosed-head : (s k n : ℕ) (b : List ℕ) → enclosed s k n b ≡ enclosure s k n (length b) ++ b
+unfolding enclosed enclosure
+enclosed-head s k n b = go (ltb (length b) shortEnd)
+  where
+    go : (y : Bool) → if y (s ∷ be 1 (1 + length b) ++ be 1 n ++ b) (k ∷ be 4 (4 + length b) ++ be 4 n ++ b) ≡ if y (s ∷ be 1 (1 + length b) ++ be 1 n) (k ∷ be 4 (4 + length b) ++ be 4 n) ++ b
+    go true = refl
+    go false = refl
+
+no-body : (cs : Trees) → count cs ≡ 0 → encode* cs ≡ []
+unfolding encode*
+no-body cs e = rw (no-children cs e)
+
+-- head, text and body of a row with the text and the children that its style asks for
+pub compact-head : (s : Style) (k n : ℕ) (t : List ℕ) (cs : Trees) → T (isKind s) → length t ≡ letters s n → count cs ≡ children s n
+    → compact s k n t (encode* cs) (headed cs (payloads cs)) ≡ head s k n (length (bodyOf s cs)) ++ (t ++ bodyOf s cs)
+unfolding isKind letters children compact head bodyOf
+compact-head foreign k n t cs i h c = absurd i
+compact-head (numbered s w) k n t cs i h c = rw (no-text t h, no-body cs c, append-nil)
+compact-head (blob w) k n t cs i h c = rw (no-body cs c, append-nil)
+compact-head (lettered s) k n t cs i h c = rw (no-body cs c, append-nil) (go (ltb n shortEnd))
+  where
+    go : (y : Bool) → if y (s ∷ be 1 n ++ t) (k ∷ be 4 n ++ t) ≡ if y (s ∷ be 1 n) (k ∷ be 4 n) ++ t
+    go true = refl
+    go false = refl
+compact-head (listed e s) k n t cs i h c = rw (no-text t h) (go (eqb n 0) refl)
+  where
+    go : (y : Bool) → eqb n 0 ≡ y → if y (e ∷ []) (enclosed s k n (encode* cs)) ≡ if y (e ∷ []) (enclosure s k n (length (encode* cs))) ++ encode* cs
+    go true f = rw (no-body cs (c ∙ eqb→eq n 0 (rw f tt)))
+    go false f = enclosed-head s k n (encode* cs)
+compact-head (mapped s) k n t cs i h c = rw (no-text t h) (enclosed-head s k n (encode* cs))
+compact-head (arrayed s) k n t cs i h c = rw (no-text t h) (enclosed-head s k n (headed cs (payloads cs)))
+compact-head describing k n t cs i h c = rw (no-text t h)
+
+-- an element is its number in full width and its text
+pub wide-head : (s : Style) (n : ℕ) (t : List ℕ) (cs : Trees) → T (plain s) → length t ≡ letters s n → wide s n t (encode* cs) (headed cs (payloads cs)) ≡ be (itemWidth s) n ++ t
+unfolding plain letters wide itemWidth be
+wide-head foreign n t cs p h = absurd p
+wide-head (numbered s w) n t cs p h = rw (no-text t h, append-nil)
+wide-head (blob w) n t cs p h = refl
+wide-head (lettered s) n t cs p h = refl
+wide-head (listed e s) n t cs p h = absurd p
+wide-head (mapped s) n t cs p h = absurd p
+wide-head (arrayed s) n t cs p h = absurd p
+wide-head describing n t cs p h = absurd p
+
+no-elements : (cs : Trees) → count cs ≡ 0 → headed cs (payloads cs) ≡ []
+unfolding headed
+no-elements cs e = rw (no-children cs e)
+
+-- a mark says how long a body is: where there is none, the body is empty
+marked-body : (n : ℕ) (b : List ℕ) → (n ≡ 0 → b ≡ []) → length b < 256 ^ 3 → unbe (be (if (eqb n 0) 0 3) (length b)) ≡ length b
+unfolding be spell
+marked-body n b f h = go (eqb n 0) refl
+  where
+    go : (y : Bool) → eqb n 0 ≡ y → unbe (be (if y 0 3) (length b)) ≡ length b
+    go true e = rw (f (eqb→eq n 0 (rw e tt)))
+    go false e = unbe-be 3 (length b) h
+
+-- so a head can be written from the mark
+pub marked-head : (s : Style) (k n : ℕ) (cs : Trees) → count cs ≡ children s n → length (bodyOf s cs) < 256 ^ 3 → head s k n (unbe (be (markWidth s n) (length (bodyOf s cs)))) ≡ head s k n (length (bodyOf s cs))
+unfolding markWidth head children bodyOf
+marked-head foreign k n cs c h = refl
+marked-head (numbered s w) k n cs c h = refl
+marked-head (blob w) k n cs c h = refl
+marked-head (lettered s) k n cs c h = refl
+marked-head (listed e s) k n cs c h = rw (marked-body n (encode* cs) (λ z. no-body cs (c ∙ z)) h)
+marked-head (mapped s) k n cs c h = rw (marked-body n (encode* cs) (λ z. no-body cs (c ∙ z)) h)
+marked-head (arrayed s) k n cs c h = rw (marked-body n (headed cs (payloads cs)) (λ z. no-elements cs (c ∙ z)) h)
+marked-head describing k n cs c h = refl
+
+-- every kind is a byte
+allBytes : List Kind → Bool
+allBytes [] = true
+allBytes (e ∷ es) = ltb (e .kind) 256 && allBytes es
+
+kind-in : (k : ℕ) (es : List Kind) → T (allBytes es) → T (isKind (lookup (λ e. e .kind) (kind k foreign) k es .style)) → k < 256
+unfolding lookup isKind allBytes
+kind-in k [] a t = absurd t
+kind-in k (e ∷ es) a t =
+    if-case (λ (x : Kind). T (isKind (x .style)) → k < 256) (eqb k (e .kind)) e (lookup (λ e. e .kind) (kind k foreign) k es)
+    (λ y z. rw (eqb→eq k (e .kind) y) (ltb→lt (e .kind) 256 (and-left (ltb (e .kind) 256) (allBytes es) a)))
+    (λ y z. kind-in k es (and-right (ltb (e .kind) 256) (allBytes es) a) z) t
+
+pub kind-small : (k : ℕ) → T (isKind (styleOf k)) → k < 256
+unfolding styleOf kinds allBytes
+kind-small k t = kind-in k kinds tt t
+
+-- numbers have at most eight bytes, so heads have at most nine
+narrow : Style → Bool
+narrow foreign = true
+narrow (numbered s w) = leb w 8
+narrow (blob w) = true
+narrow (lettered s) = true
+narrow (listed e s) = true
+narrow (mapped s) = true
+narrow (arrayed s) = true
+narrow describing = true
+
+allNarrow : List Kind → Bool
+allNarrow [] = true
+allNarrow (e ∷ es) = narrow (e .style) && allNarrow es
+
+narrow-in : (k : ℕ) (es : List Kind) → T (allNarrow es) → T (narrow (lookup (λ e. e .kind) (kind k foreign) k es .style))
+unfolding lookup narrow allNarrow
+narrow-in k [] a = tt
+narrow-in k (e ∷ es) a =
+    if-case (λ (x : Kind). T (narrow (x .style))) (eqb k (e .kind)) e (lookup (λ e. e .kind) (kind k foreign) k es)
+    (λ y. and-left (narrow (e .style)) (allNarrow es) a) (λ y. narrow-in k es (and-right (narrow (e .style)) (allNarrow es) a))
+
+style-narrow : (k : ℕ) → T (narrow (styleOf k))
+unfolding styleOf kinds narrow allNarrow
+style-narrow k = narrow-in k kinds tt
+
+if-short : (b : Bool) (x y : List ℕ) (n : ℕ) → length x ≤ n → length y ≤ n → length (if b x y) ≤ n
+if-short true x y n h i = h
+if-short false x y n h i = i
+
+number-alone : (c w n : ℕ) → w ≤ 8 → length (c ∷ be w n) ≤ 9
+number-alone c w n h = omega (arith, length-be w n)
+
+number-pair : (c w x y : ℕ) → w ≤ 4 → length (c ∷ be w x ++ be w y) ≤ 9
+number-pair c w x y h = omega (arith, length-append (be w x) (be w y), length-be w x, length-be w y)
+
+enclosure-short : (s k n b : ℕ) → length (enclosure s k n b) ≤ 9
+unfolding enclosure
+enclosure-short s k n b = if-short (ltb b shortEnd) _ _ 9 (number-pair s 1 (1 + b) n (lit≤ tt)) (number-pair k 4 (4 + b) n (lit≤ tt))
+
+shortest-short : (s : Short) (w k n : ℕ) → w ≤ 8 → length (shortest s w k n) ≤ 9
+unfolding shortest
+shortest-short never w k n h = number-alone k w n h
+shortest-short (flag y x) w k n h = if-short (eqb n 0) _ _ 9 (omega arith) (omega arith)
+shortest-short (unsigned z s) w k n h = if-short (eqb n 0) _ _ 9 (omega arith) (if-short (ltb n 256) _ _ 9 (number-alone s 1 n (lit≤ tt)) (number-alone k w n h))
+shortest-short (signed s) w k n h = if-short (fitsByte w n) _ _ 9 (number-alone s 1 n (lit≤ tt)) (number-alone k w n h)
+
+style-short : (s : Style) (k n b : ℕ) → T (narrow s) → length (head s k n b) ≤ 9
+unfolding narrow head
+style-short foreign k n b t = omega arith
+style-short (numbered s w) k n b t = shortest-short s w k n (leb→le w 8 t)
+style-short (blob w) k n b t = omega arith
+style-short (lettered s) k n b t = if-short (ltb n shortEnd) _ _ 9 (number-alone s 1 n (lit≤ tt)) (number-alone k 4 n (lit≤ tt))
+style-short (listed e s) k n b t = if-short (eqb n 0) _ _ 9 (omega arith) (enclosure-short s k n b)
+style-short (mapped s) k n b t = enclosure-short s k n b
+style-short (arrayed s) k n b t = enclosure-short s k n b
+style-short describing k n b t = omega arith
+
+pub head-short : (k j n b : ℕ) → length (head (styleOf k) j n b) ≤ 9
+head-short k j n b = style-short (styleOf k) j n b (style-narrow k)
+
+item-narrow : (s : Style) → T (narrow s) → itemWidth s ≤ 8
+unfolding narrow itemWidth
+item-narrow foreign t = omega arith
+item-narrow (numbered s w) t = leb→le w 8 t
+item-narrow (blob w) t = omega arith
+item-narrow (lettered s) t = omega arith
+item-narrow (listed e s) t = omega arith
+item-narrow (mapped s) t = omega arith
+item-narrow (arrayed s) t = omega arith
+item-narrow describing t = omega arith
+
+pub item-short : (k : ℕ) → itemWidth (styleOf k) ≤ 8
+item-short k = item-narrow (styleOf k) (style-narrow k)
+
+-- a head's length by its fields
+pub head-width : (h : Head) (s : Style) (k j n b : ℕ) → headIs h ≡ head s j n b → s ≡ styleOf k → (1 + h .width + h .«count_width» ≡ length (head (styleOf k) j n b)) × (1 + h .width + h .«count_width» ≤ 9)
+head-width h s k j n b e f =
+    let a = length-append (be (h .width) (h .number)) (be (h .«count_width») (h .count)) in
+    let d : length (headIs h) ≡ length (head (styleOf k) j n b) = rw f at (ap length e) in (
+      omega (arith, length-be (h .width) (h .number), length-be (h .«count_width») (h .count)),
+      omega (arith, length-be (h .width) (h .number), length-be (h .«count_width») (h .count), head-short k j n b),
+    )

@@ -1,0 +1,80 @@
+-- The checks of a row, one outcome after another.
+use Prim.Native.Nat.{ℕ, zero, suc, _+_, _*_, _-_, _≤_, _<_}
+use mathlib.Core.Path.{_≡_, refl, sym, ap, _∙_}
+use mathlib.Core.List.{List, [], _∷_}
+use mathlib.Core.Bool.{Bool, true, false, not}
+use native.Mathlib.Numerals.{add-one, add-two}
+use native.Mathlib.Omega.{arith}
+use borrow.Author.Tests.{le-leb, lt-leb}
+use lib.ListN.{length, take, drop, getD, length-drop}
+use lib.Seq.{drop-cons}
+use Rattle.standard.specs.Answer.{Answer, got, refuse, at, rowsAmiss, kindUnknown, tooDeep, elementUnfit, numberOutside, textAmiss}
+use Rattle.standard.specs.Kinds.{Style, styleOf, isKind, clean}
+use Rattle.standard.specs.Table.{Spot, allowed, ranged, letters}
+use Rattle.writer.specs.Rows.{check}
+
+pub not-true : (b : Bool) → not b ≡ true → b ≡ false
+not-true true e = sym e
+not-true false e = refl
+
+pub not-false : (b : Bool) → not b ≡ false → b ≡ true
+not-false true e = refl
+not-false false e = sym e
+
+-- the two words of a row
+pub row-words : (w : List ℕ) (i : ℕ) → 2 * i + 2 ≤ length w → drop (2 * i) w ≡ getD w (2 * i) 0 ∷ getD w (2 * i + 1) 0 ∷ drop (2 * i + 2) w
+row-words w i h =
+    drop-cons w (2 * i) 0 (omega arith) ∙ ap (λ (z : List ℕ). getD w (2 * i) 0 ∷ z) (rw (add-one (2 * i), add-two (2 * i)) (drop-cons w (suc (2 * i)) 0 (omega arith)))
+
+pub check-missing : (l : ℕ) (c : Spot) (i : ℕ) (w x : List ℕ) → length w < 2 → check l c i w x ≡ refuse rowsAmiss (at i)
+unfolding check
+check-missing zero c i [] x h = refl
+check-missing zero c i (k ∷ []) x h = refl
+check-missing zero c i (k ∷ n ∷ w) x h = absurd (omega arith)
+check-missing (suc l) c i [] x h = refl
+check-missing (suc l) c i (k ∷ []) x h = refl
+check-missing (suc l) c i (k ∷ n ∷ w) x h = absurd (omega arith)
+
+module _ (c : Spot) (i k n : ℕ) (w x : List ℕ) where
+  pub check-kind : (l : ℕ) → isKind (styleOf k) ≡ false → check l c i (k ∷ n ∷ w) x ≡ refuse kindUnknown (at i)
+  unfolding check
+  check-kind zero a = rw a
+  check-kind (suc l) a = rw a
+
+  pub check-deep : (l : ℕ) → isKind (styleOf k) ≡ true → l ≡ 0 → check l c i (k ∷ n ∷ w) x ≡ refuse tooDeep (at i)
+  unfolding check
+  check-deep l a e = rw (e, a)
+
+  -- what is checked behind kind and level
+  module _ (a : isKind (styleOf k) ≡ true) where
+    pub check-element : (l : ℕ) → 0 < l → allowed c k ≡ false → check l c i (k ∷ n ∷ w) x ≡ refuse elementUnfit (at i)
+    unfolding check
+    check-element zero h b = absurd (omega arith)
+    check-element (suc l) h b = rw (a, b)
+
+    pub check-number : (l : ℕ) → 0 < l → allowed c k ≡ true → ranged (styleOf k) k n ≡ false → check l c i (k ∷ n ∷ w) x ≡ refuse numberOutside (at i)
+    unfolding check
+    check-number zero h b d = absurd (omega arith)
+    check-number (suc l) h b d = rw (a, b, d)
+
+    module _ (b : allowed c k ≡ true) (d : ranged (styleOf k) k n ≡ true) where
+      pub check-short : (l : ℕ) → 0 < l → length x < letters (styleOf k) n → check l c i (k ∷ n ∷ w) x ≡ refuse textAmiss (at i)
+      unfolding check
+      check-short zero h e = absurd (omega arith)
+      check-short (suc l) h e = rw (a, b, d, lt-leb (letters (styleOf k) n) (length x) e)
+
+      pub check-text : (l : ℕ) → 0 < l → letters (styleOf k) n ≤ length x → clean k (take (letters (styleOf k) n) x) ≡ false → check l c i (k ∷ n ∷ w) x ≡ refuse textAmiss (at i)
+      unfolding check
+      check-text zero h e f = absurd (omega arith)
+      check-text (suc l) h e f = rw (a, b, d, le-leb (letters (styleOf k) n) (length x) e, f)
+
+      pub check-good : (l : ℕ) → 0 < l → letters (styleOf k) n ≤ length x → clean k (take (letters (styleOf k) n) x) ≡ true → check l c i (k ∷ n ∷ w) x ≡ got (k, n)
+      unfolding check
+      check-good zero h e f = absurd (omega arith)
+      check-good (suc l) h e f = rw (a, b, d, le-leb (letters (styleOf k) n) (length x) e, f)
+
+-- what was found of a part of the text
+pub clean-part : (k m : ℕ) (x : List ℕ) (a n : ℕ) (s : Style) (b d : Bool) → b ≡ clean k (take (a + n - a) (drop a x)) → n ≡ letters s m → s ≡ styleOf k → b ≡ d → clean k (take (letters (styleOf k) m) (drop a x)) ≡ d
+clean-part k m x a n s b d e f h g =
+    let j : a + n - a ≡ letters (styleOf k) m = rw (← h) (omega arith) in
+    rw j at (sym e) ∙ g

@@ -1,0 +1,127 @@
+-- Writing a table that fits: its marks at the end of the region, then its rows from the front.
+use Prim.Native.Nat.{ℕ, zero, suc, _+_, _*_, _-_, _%_, _^_, _≤_, _<_}
+use mathlib.Core.Path.{_≡_, refl, sym, ap, _∙_}
+use mathlib.Core.List.{List, [], _∷_, _++_, append-nil, append-assoc}
+use native.Mathlib.Omega.{arith}
+use borrow.Author.Tests.{le-leb, lt-leb}
+use lib.Dec.{leb}
+use lib.ListN.{length, take, drop, length-append, length-take}
+use lib.Seq.{sets, length-sets, sets-eq, take-at, drop-at, length-take-le}
+use Rattle.standard.specs.Answer.{Answer, got, refuse, Place, at, _>>=_, need, outputShort}
+use Rattle.standard.specs.Tree.{Tree, Trees, none, more, rows, text}
+use Rattle.standard.specs.Table.{most, any, Valid, tree, table}
+use Rattle.standard.specs.Encode.{encode}
+use Rattle.standard.specs.Outcomes.{over, bytesOf, size, Writing, writtenTo, write}
+use Rattle.standard.specs.Laws.Bounds.{rows-length}
+use Rattle.standard.specs.Laws.Tables.{tree-complete, table-holds}
+use Rattle.writer.specs.Marks.{marks}
+use Rattle.writer.specs.Sizing.{Marked, values}
+use Rattle.writer.specs.Filling.{flat, boxed, lettersIn, Fillable}
+use Rattle.writer.specs.Tables.{levelMost, Fitting, Writable, bytesIn, marksIn}
+use Rattle.writer.specs.declared.sizing.Extent.{Extent}
+use Rattle.writer.proofs.Flat.{Flattened, flattened}
+use Rattle.writer.proofs.Rows.{boxed-covers}
+use Rattle.writer.proofs.Whole.{one-value, marked-one, fits-bytes}
+
+-- what a run of stores leaves around itself
+around : (d : List ℕ) (i : ℕ) (xs : List ℕ) (n : ℕ) → i + length xs ≡ n → n ≤ length d → (drop i (take n (sets d i xs)) ≡ xs) × (drop n (sets d i xs) ≡ drop n d)
+around d i xs n e h =
+    let a : length (take i d) ≡ i = length-take-le i d (omega arith) in
+    let b : length (take i d ++ xs) ≡ n = length-append (take i d) xs ∙ omega arith in
+    let s : sets d i xs ≡ (take i d ++ xs) ++ drop n d = sets-eq xs d i (omega arith) ∙ ap (λ (z : ℕ). take i d ++ xs ++ drop z d) e in
+    (rw (s, take-at (take i d ++ xs) (drop n d) n b, drop-at (take i d) xs i a), rw (s, drop-at (take i d ++ xs) (drop n d) n b))
+
+-- stores from the front cover all stores below their end
+covered : (d : List ℕ) (i : ℕ) (xs ys : List ℕ) → i + length xs ≡ length ys → length ys ≤ length d → sets (sets d i xs) 0 ys ≡ sets d 0 ys
+covered d i xs ys e h =
+    let f : drop (length ys) (sets d i xs) ≡ drop (length ys) d = around d i xs (length ys) e h .1 in
+    let z : 0 + length ys ≡ length ys = omega arith in
+    sets-eq ys (sets d i xs) 0 (rw length-sets (omega arith)) ∙ rw (z, f) (sym (sets-eq ys d 0 (omega arith) ∙ rw z))
+
+front-over : (d ys : List ℕ) → length ys ≤ length d → sets d 0 ys ≡ over ys d
+front-over d ys h =
+    let z : 0 + length ys ≡ length ys = omega arith in
+    sets-eq ys d 0 (omega arith) ∙ rw z
+
+table-values : (l : ℕ) (w x : List ℕ) (v : Tree) → table l w x ≡ got v → values w x l any 1 0 0 ≡ got (more v none, [], [])
+table-values l w x v e =
+    let h = table-holds l w x v e in
+    let t : tree l any 0 w x ≡ got (v, [], []) = rw (h .0, h .1) (simp append-nil at (tree-complete l any v (h .2) 0 [] [])) in
+    one-value l w x ∙ rw t
+
+module _ (w x near : List ℕ) (n m : ℕ) (d : List ℕ) (g : Writable w x near n m d) where
+  flatly : Flattened (g .tree)
+  flatly = flattened (g .tree) levelMost (table-holds levelMost w x (g .tree) (g .isTable) .2) (omega (arith, g .size, g .small))
+
+  pub near-marks : m ≤ length near → (d₁ : List ℕ) → d₁ ≡ sets d (n - m) (take m (drop 0 near)) → d₁ ≡ sets d (n - m) (marksIn (table levelMost w x))
+  near-marks h d₁ e = e ∙ rw (g .isTable, g .close h)
+
+  pub far-marks : m ≤ n → (d₁ : List ℕ) → Marked d (n - m) d₁ (values w x levelMost any 1 0 0) → d₁ ≡ sets d (n - m) (marksIn (table levelMost w x))
+  far-marks h d₁ e =
+      rw (g .isTable) (marked-one d d₁ (n - m) (g .tree) [] [] (values w x levelMost any 1 0 0) (table-values levelMost w x (g .tree) (g .isTable)) e (omega (arith, g .mark, g .room)))
+
+  module _ (h : m ≤ n) (d₁ : List ℕ) (e : d₁ ≡ sets d (n - m) (marksIn (table levelMost w x))) where
+    tail-marks : drop (n - m) (take n d₁) ≡ marks (g .tree)
+    tail-marks = rw (e, g .isTable) (around d (n - m) (marks (g .tree)) n (omega (arith, g .mark)) (g .room) .0)
+
+    table-bytes : flat 0 w x (drop (n - m) (take n d₁)) ≡ encode (g .tree)
+    table-bytes =
+        let t = table-holds levelMost w x (g .tree) (g .isTable) in
+        rw (tail-marks, t .0, t .1) (flatly .bytes)
+
+    pub fillable : Fillable w x d₁ n (n - m)
+    fillable =
+        let t = table-holds levelMost w x (g .tree) (g .isTable) in
+        record {
+          even = rw (t .0) (omega (arith, rows-length (g .tree)));
+          room = rw (e, length-sets) (g .room);
+          bytes = rw table-bytes (sym (g .size));
+          marked = rw (t .0) (omega (arith, flatly .boxes, g .mark));
+          texts = rw (t .0, t .1) (flatly .letters);
+        }
+
+    pub all-bytes : (d₂ : List ℕ) → d₂ ≡ sets d₁ 0 (flat 0 w x (drop (n - m) (take n d₁))) → d₂ ≡ sets d 0 (bytesIn (table levelMost w x))
+    all-bytes d₂ f =
+        f ∙ rw (table-bytes, e, g .isTable) (covered d (n - m) (marks (g .tree)) (encode (g .tree)) (omega (arith, g .mark, g .size)) (omega (arith, g .size, g .room)))
+
+-- A table that fits can be written
+pub marks-inside : (w x b a : List ℕ) (e : Extent) → Fitting w x b a e → e .mark ≤ e .size
+marks-inside w x b a e f =
+    let k = flattened (f .tree) levelMost (table-holds levelMost w x (f .tree) (f .isTable) .2) (omega (arith, f .size, f .small)) in
+    omega (arith, boxed-covers 0 (rows (f .tree)) (text (f .tree)) (marks (f .tree)), k .boxes, ap length (k .bytes), f .size, f .mark)
+
+pub writable : (w x b a : List ℕ) (e : Extent) → Fitting w x b a e → length a ≡ length b → (d : List ℕ) → e .size ≤ length d → Writable w x a (e .size) (e .mark) d
+writable w x b a e f z d h =
+    record {
+      tree = f .tree;
+      isTable = f .isTable;
+      size = f .size;
+      small = f .small;
+      mark = f .mark;
+      close = λ r. rw (f .kept (omega (arith, f .mark)), front-over b (marks (f .tree)) (omega (arith, f .mark)), f .mark) (take-at (marks (f .tree)) (drop (length (marks (f .tree))) b) (length (marks (f .tree))) refl);
+      room = h;
+    }
+
+-- The outcomes
+
+size-bytes : (a : Answer (List ℕ)) (x : ℕ) (p : Place) → _>>=_ a (λ bs. got (length bs)) ≡ refuse x p → a ≡ refuse x p
+size-bytes (got b) x p e = let z : _≡_ {A = ℕ} 0 1 = cc in absurd (omega arith)
+size-bytes (refuse y q) x p e = let i : y ≡ x = cc in let j : q ≡ p = cc in rw (i, j)
+
+pub write-no : (w x d : List ℕ) (a : ℕ) (p : Place) → size levelMost w x ≡ refuse a p → write levelMost w x d ≡ record { answer = refuse a p; out = d }
+unfolding size write writtenTo
+write-no w x d a p e = rw (size-bytes (bytesOf levelMost w x) a p e)
+
+pub write-short : (w x b a d : List ℕ) (e : Extent) → Fitting w x b a e → length d < e .size → write levelMost w x d ≡ record { answer = refuse outputShort (at 0); out = d }
+unfolding write writtenTo
+write-short w x b a d e f h = rw (fits-bytes w x b a e f, lt-leb (length (encode (f .tree))) (length d) (rw (← f .size) h))
+
+pub write-good : (w x b a d : List ℕ) (e : Extent) → Fitting w x b a e → e .size ≤ length d → write levelMost w x d ≡ record { answer = got (e .size); out = sets d 0 (bytesIn (table levelMost w x)) }
+unfolding write writtenTo
+write-good w x b a d e f h =
+    let i : length (encode (f .tree)) ≤ length d = rw (← f .size) h in
+    rw (fits-bytes w x b a e f, le-leb (length (encode (f .tree))) (length d) i, f .isTable, front-over d (encode (f .tree)) i, f .size)
+
+-- an outcome, part by part
+pub parts : (w x d : List ℕ) (a : Answer ℕ) (o : List ℕ) → write levelMost w x d ≡ record { answer = a; out = o } → (a ≡ write levelMost w x d .answer) × (o ≡ write levelMost w x d .out)
+parts w x d a o e = (sym (ap (λ z. z .answer) e), sym (ap (λ z. z .out) e))

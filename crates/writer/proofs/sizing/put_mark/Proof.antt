@@ -1,0 +1,18 @@
+-- `put_mark` stores a mark that fits; a mark of no bytes changes nothing.
+use borrow.Author.Needs.{needs}
+use native.Mathlib.Omega.{arith}
+use Rattle.standard.specs.Bytes.{be}
+use Rattle.writer.proofs.sizing.put_mark.Statement.{statement}
+use Rattle.writer.proofs.sizing.put_mark.Tie as tie
+
+pub put-mark-spec : {M : Type 1} → statement M
+unfolding be
+put-mark-spec =
+    tie.close
+    (tie.spec
+    (λ c. λ h. rw (c .if1 .taken))
+    (λ c. search needs)
+    (λ c κs. search needs)
+    (λ c. search needs)
+    (λ c. λ h. c .before .before .put-be .ensures)
+    (λ c. λ h. absurd (omega arith)))

@@ -1,0 +1,8 @@
+-- What the writer's functions are held to, beside the definitions of `standard`.
+pub mod Heads
+pub mod Rows
+pub mod Marks
+pub mod Sizing
+pub mod Filling
+pub mod Tables
+pub mod InCode

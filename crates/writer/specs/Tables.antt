@@ -1,0 +1,52 @@
+-- What sizing says of a whole table.
+use Prim.Native.Nat.{ℕ, _≤_}
+use mathlib.Core.Path.{_≡_}
+use mathlib.Core.List.{List, []}
+use lib.ListN.{length, take}
+use lib.Seq.{sets}
+use Rattle.standard.specs.Answer.{Answer, got, refuse}
+use Rattle.standard.specs.InCode.{refusalIs}
+use Rattle.standard.specs.Tree.{Tree}
+use Rattle.standard.specs.Table.{most, table}
+use Rattle.standard.specs.Encode.{encode}
+use Rattle.standard.specs.Outcomes as outcome
+use Rattle.writer.specs.Marks.{marks}
+use Rattle.writer.specs.declared.sizing.Extent.{Extent}
+use Rattle.writer.specs.declared.sizing.Sized.{Sized}
+use Rattle.writer.specs.declared.sizing.Sized.the-variants.{Fits, Refused}
+
+-- the level limit of the entry points (docs/FORMAT.md, 2.5)
+abbrev pub levelMost : ℕ
+levelMost = 32
+
+-- a table that can be written, with its size and its marks, which stand in the buffer if it has room for them
+pub record Fitting (words letters before after : List ℕ) (e : Extent) : Type 0 where
+  pub tree : Tree
+  pub isTable : table levelMost words letters ≡ got tree
+  pub size : e .size ≡ length (encode tree)
+  pub small : e .size ≤ most
+  pub mark : e .mark ≡ length (marks tree)
+  pub kept : length (marks tree) ≤ length before → after ≡ sets before 0 (marks tree)
+
+abbrev pub TableSized : (words letters before after : List ℕ) → Sized → Type 0
+TableSized w x b a (Fits e) = Fitting w x b a e
+TableSized w x b a (Refused r) = outcome.size levelMost w x ≡ refusalIs r
+
+-- the bytes and the marks of what a table holds
+abbrev pub bytesIn : Answer Tree → List ℕ
+bytesIn (got v) = encode v
+bytesIn (refuse x p) = []
+
+abbrev pub marksIn : Answer Tree → List ℕ
+marksIn (got v) = marks v
+marksIn (refuse x p) = []
+
+-- a table of n bytes with m bytes of marks, of which the first stand near if there is room for all
+pub record Writable (words letters near : List ℕ) (n m : ℕ) (out : List ℕ) : Type 0 where
+  pub tree : Tree
+  pub isTable : table levelMost words letters ≡ got tree
+  pub size : n ≡ length (encode tree)
+  pub small : n ≤ most
+  pub mark : m ≡ length (marks tree)
+  pub close : m ≤ length near → take m near ≡ marks tree
+  pub room : n ≤ length out

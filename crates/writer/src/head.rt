@@ -1,0 +1,163 @@
+// What stands before a row's text: the format code, and its number or its size and count (docs/FORMAT.md, 3).
+ghost use mathlib.Core.Path.{_≡_};
+ghost use mathlib.Core.List.{[], _∷_};
+ghost use Prim.Native.Nat.{_+_, _%_, _<_, _^_};
+ghost use lib.Dec.{eqb, ltb};
+ghost use Rattle.standard.specs.Choose.{if};
+ghost use Rattle.standard.specs.Bytes.{be};
+ghost use Rattle.standard.specs.Encode.{shortest, shortEnd};
+ghost use Rattle.standard.specs.InCode.{styleIs, shortIs};
+ghost use Rattle.writer.specs.Heads.{enclosure, head, itemWidth, headIs};
+use standard::format_code::Compound8;
+use standard::format_code::Compound32;
+use standard::kind;
+use standard::kind::Short;
+use standard::kind::Style;
+
+// Texts and bodies of fewer bytes than this take the short form.
+const SHORT_END: u64 = 255;
+
+// A format code, and up to two numbers behind it with their widths in bytes.
+pub struct Head {
+    pub code: u8,
+    pub width: usize,
+    pub number: u64,
+    pub count_width: usize,
+    pub count: u64,
+}
+
+impl Head {
+    // A code alone.
+    fn bare(code: u8) -> Self
+        ensures { λ r. ⌜ r ≡ record { code = code; width = 0; number = 0; «count_width» = 0; count = 0 } ⌝ }
+    {
+        Self {
+            code,
+            width: 0,
+            number: 0,
+            count_width: 0,
+            count: 0,
+        }
+    }
+
+    // A code and a number.
+    fn one(code: u8, width: usize, number: u64) -> Self
+        ensures { λ r. ⌜ r ≡ record { code = code; width = width; number = number; «count_width» = 0; count = 0 } ⌝ }
+    {
+        Self {
+            code,
+            width,
+            number,
+            count_width: 0,
+            count: 0,
+        }
+    }
+}
+
+// A number in the shortest form of its kind.
+fn write_number(short: Short, width: usize, code: u8, number: u64) -> Head
+    ensures { λ r. ⌜ headIs r ≡ shortest (shortIs short) width code number ⌝ }
+{
+    match short {
+        Short::Never => Head::one(code, width, number),
+        Short::Flag(one, zero) => {
+            if number == 0 {
+                return Head::bare(zero);
+            }
+            Head::bare(one)
+        }
+        Short::Unsigned(zero, byte) => {
+            if number == 0 {
+                return Head::bare(zero);
+            }
+            if number < 256 {
+                return Head::one(byte, 1, number);
+            }
+            Head::one(code, width, number)
+        }
+        Short::Signed(byte) => {
+            if kind::fits_byte(number, width) {
+                return Head::one(byte, 1, number);
+            }
+            Head::one(code, width, number)
+        }
+    }
+}
+
+// The length of a text.
+fn write_text(short: u8, code: u8, number: u64) -> Head
+    ensures { λ r. ⌜ headIs r ≡ if (ltb number shortEnd) (short ∷ be 1 number) (code ∷ be 4 number) ⌝ }
+{
+    if number < SHORT_END {
+        return Head::one(short, 1, number);
+    }
+    Head::one(code, 4, number)
+}
+
+// Size and count of a map, an array or a list that is not empty.
+fn write_compound(short: u8, code: u8, count: u64, body: usize) -> Head
+    requires { ⌜ body + 4 < 2 ^ 64 ⌝ }
+    ensures { λ r. ⌜ headIs r ≡ enclosure short code count body ⌝ }
+{
+    let size = body as u64;
+    if size < SHORT_END {
+        return Head {
+            code: short,
+            width: Compound8::COUNT_WIDTH,
+            number: 1 + size,
+            count_width: Compound8::COUNT_WIDTH,
+            count,
+        };
+    }
+    Head {
+        code,
+        width: Compound32::COUNT_WIDTH,
+        number: 4 + size,
+        count_width: Compound32::COUNT_WIDTH,
+        count,
+    }
+}
+
+fn write_list(empty: u8, short: u8, code: u8, count: u64, body: usize) -> Head
+    requires { ⌜ body + 4 < 2 ^ 64 ⌝ }
+    ensures { λ r. ⌜ headIs r ≡ if (eqb count 0) (empty ∷ []) (enclosure short code count body) ⌝ }
+{
+    if count == 0 {
+        return Head::bare(empty);
+    }
+    write_compound(short, code, count, body)
+}
+
+// What stands before the text of a value whose body has so many bytes.
+pub(crate) fn head_of(style: Style, kind: u64, number: u64, body: usize) -> Head
+    requires { ⌜ body + 4 < 2 ^ 64 ⌝ }
+    ensures { λ r. ⌜ headIs r ≡ head (styleIs style) (kind % 256) number body ⌝ }
+{
+    let code = (kind % 256) as u8;
+    match style {
+        Style::Foreign => Head::bare(code),
+        Style::Numbered(short, width) => write_number(short, width, code, number),
+        Style::Blob(_) => Head::bare(code),
+        Style::Lettered(short) => write_text(short, code, number),
+        Style::Listed(empty, short) => write_list(empty, short, code, number, body),
+        Style::Mapped(short) => write_compound(short, code, number, body),
+        Style::Arrayed(short) => write_compound(short, code, number, body),
+        Style::Describing => Head::bare(code),
+    }
+}
+
+// The width of the number before the text of an element of an array, which has no code of its own and no short form.
+pub(crate) fn item_width(style: Style) -> usize
+    ensures { λ r. ⌜ r ≡ itemWidth (styleIs style) ⌝ }
+{
+    match style {
+        Style::Foreign => 0,
+        Style::Numbered(_, width) => width,
+        Style::Blob(_) => 0,
+        Style::Lettered(_) => 4,
+        Style::Listed(_, _) => 0,
+        Style::Mapped(_) => 0,
+        Style::Arrayed(_) => 0,
+        Style::Describing => 0,
+    }
+}

@@ -1,0 +1,141 @@
+// The writer: a value table to bytes (docs/FORMAT.md, 3). A port of serde_amqp's src/ser.rs, whose names are kept where the two meet.
+//
+// Sizing goes over the rows once, checks everything and finds the bytes that they take; beside that it leaves the sizes of the
+// compounds that it meets, the marks. Only when success is certain is the output touched: the marks go to the end of the region
+// that will be written, and one pass over the rows writes each head and text and takes the marks as it comes to them. What is
+// still to be written is never shorter than the marks that are still to be taken, so none is overwritten before its turn.
+ghost use mathlib.Core.Path.{_≡_};
+ghost use Rattle.standard.specs.Outcomes as outcome;
+ghost use Prim.Native.Nat.{_-_, _≤_};
+ghost use lib.Seq.{sets};
+ghost use Rattle.standard.specs.Table.{table};
+ghost use Rattle.writer.specs.Tables.{TableSized, Writable, bytesIn, marksIn, levelMost};
+ghost use Rattle.writer.specs.InCode.{writtenIs};
+
+mod filling;
+mod head;
+mod put;
+mod row;
+mod sizing;
+
+use row::IsArrayElement;
+use sizing::Sized;
+use standard::kind;
+use standard::refusal;
+use standard::refusal::Refusal;
+
+// No value stands beyond this level.
+const LEVELS: usize = 32;
+
+// So many bytes of marks are kept beside the output: those of 64 compounds.
+const NEAR: usize = 192;
+
+// The length in bytes of what is written, or why nothing is.
+pub enum Written {
+    Length(usize),
+    Refused(Refusal),
+}
+
+fn refuse(number: usize, place: usize) -> Sized
+    ensures { λ r. ⌜ r ≡ Sized.Refused (record { number = number; place = place }) ⌝ }
+{
+    Sized::Refused(Refusal { number, place })
+}
+
+// Sizes a whole table, and leaves its marks where there is room for them.
+fn size_table(words: &[u64], text: &[u8], marks: &mut [u8]) -> Sized
+    ensures { λ r. ⌜ TableSized (now (words .entry)) (now (text .entry)) (now (marks .entry)) (now (marks .exit)) r ⌝ }
+{
+    let n = words.len();
+    if n % 2 == 1 {
+        return refuse(refusal::ROWS_AMISS, 0);
+    }
+    let all = sizing::size_values(
+        words,
+        text,
+        0,
+        0,
+        1,
+        LEVELS,
+        IsArrayElement::False,
+        marks,
+        0,
+    );
+    let Sized::Fits(e) = all else {
+        return all;
+    };
+    if 2 * e.row < n {
+        return refuse(refusal::ROWS_AMISS, e.row);
+    }
+    if e.text < text.len() {
+        return refuse(refusal::TEXT_AMISS, n / 2);
+    }
+    if (kind::MOST as usize) < e.size {
+        return refuse(refusal::TOO_LONG, 0);
+    }
+    all
+}
+
+// The length of what would be written.
+pub fn size(words: &[u64], text: &[u8]) -> Written
+    ensures { λ r. ⌜ writtenIs r ≡ outcome.size levelMost (now (words .entry)) (now (text .entry)) ⌝ }
+{
+    let mut near = [0u8; NEAR];
+    match size_table(words, text, &mut near) {
+        Sized::Refused(r) => Written::Refused(r),
+        Sized::Fits(e) => Written::Length(e.size),
+    }
+}
+
+// Puts the marks of a table to the end of its n bytes: from memory where they are near, or by sizing it again.
+fn put_marks(words: &[u64], text: &[u8], near: &[u8], n: usize, m: usize, out: &mut [u8])
+    requires { ⌜ (m ≤ n) × Writable (now words) (now text) (now near) n m (now out) ⌝ }
+    ensures { λ _. ⌜ now (out .exit) ≡ sets (now (out .entry)) (n - m) (marksIn (table levelMost (now (words .entry)) (now (text .entry)))) ⌝ }
+{
+    let slot = n - m;
+    if m <= near.len() {
+        put::put_text(out, slot, near, 0, m);
+        return;
+    }
+    sizing::size_values(
+        words,
+        text,
+        0,
+        0,
+        1,
+        LEVELS,
+        IsArrayElement::False,
+        out,
+        slot,
+    );
+}
+
+// Writes a table of n bytes with m bytes of marks.
+fn write_table(words: &[u64], text: &[u8], near: &[u8], n: usize, m: usize, out: &mut [u8])
+    requires { ⌜ (m ≤ n) × Writable (now words) (now text) (now near) n m (now out) ⌝ }
+    ensures { λ _. ⌜ now (out .exit) ≡ sets (now (out .entry)) 0 (bytesIn (table levelMost (now (words .entry)) (now (text .entry)))) ⌝ }
+{
+    put_marks(words, text, near, n, m, out);
+    filling::fill(words, text, out, n, n - m);
+}
+
+// Writes a table to the front of the output, or refuses and leaves the output as it is.
+pub fn write(words: &[u64], text: &[u8], out: &mut [u8]) -> Written
+    ensures { λ r. ⌜ (writtenIs r ≡ outcome.write levelMost (now (words .entry)) (now (text .entry)) (now (out .entry)) .answer)
+        × (now (out .exit) ≡ outcome.write levelMost (now (words .entry)) (now (text .entry)) (now (out .entry)) .out) ⌝ }
+{
+    let mut near = [0u8; NEAR];
+    match size_table(words, text, &mut near) {
+        Sized::Refused(r) => Written::Refused(r),
+        Sized::Fits(e) => {
+            if out.len() < e.size {
+                return Written::Refused(Refusal {
+                    number: refusal::OUTPUT_SHORT,
+                    place: 0,
+                });
+            }
+            write_table(words, text, &near, e.size, e.mark, out);
+            Written::Length(e.size)
+        }
+    }
+}
