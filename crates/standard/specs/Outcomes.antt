@@ -10,13 +10,17 @@ use Rattle.standard.specs.Table.{most, table}
 use Rattle.standard.specs.Encode.{encode}
 use Rattle.standard.specs.Read.{front}
 
+-- the level limit of the entry points (docs/FORMAT.md, 2.5); definitions and laws hold for every limit
+abbrev pub levelMost : ℕ
+levelMost = 32
+
 -- the bytes xs at the beginning of a buffer
 abbrev pub over : (xs buffer : List ℕ) → List ℕ
 over xs b = xs ++ drop (length xs) b
 
 -- Sizing and writing (docs/FORMAT.md, 6.1 and 6.2)
 
--- the bytes of a table that can be writtenTo
+-- the bytes of a table that can be written
 unfoldable pub bytesOf : (levels : ℕ) → (words letters : List ℕ) → Answer (List ℕ)
 bytesOf l w x = do
   v ← table l w x

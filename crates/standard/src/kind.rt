@@ -79,6 +79,9 @@ pub fn style_of(kind: u64) -> Style
 // The writer's limit on lengths, counts and bytes.
 pub const MOST: u64 = 0x10_0000;
 
+// No value stands beyond this level.
+pub const LEVELS: usize = 32;
+
 // Is a boolean 0 or 1, and a char no surrogate and at most 0x10ffff. Every other number is fair.
 pub fn is_fair(kind: u64, number: u64) -> bool
     ensures { λ r. ⌜ r ≡ fair kind number ⌝ }

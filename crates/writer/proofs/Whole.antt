@@ -19,7 +19,8 @@ use Rattle.standard.specs.Laws.Tables.{tree-sound}
 use Rattle.standard.specs.declared.refusal.Refusal.{Refusal}
 use Rattle.writer.specs.Marks.{marks, marks*}
 use Rattle.writer.specs.Sizing.{sizeIn, total, Marked, values}
-use Rattle.writer.specs.Tables.{levelMost, Fitting}
+use Rattle.standard.specs.Outcomes.{levelMost}
+use Rattle.writer.specs.Tables.{Fitting}
 use Rattle.writer.specs.declared.sizing.Sized.{Sized}
 use Rattle.writer.specs.declared.sizing.Sized.the-variants.{Fits, Refused}
 use Rattle.writer.specs.declared.sizing.Extent.{Extent}

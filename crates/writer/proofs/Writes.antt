@@ -17,7 +17,8 @@ use Rattle.standard.specs.Laws.Tables.{tree-complete, table-holds}
 use Rattle.writer.specs.Marks.{marks}
 use Rattle.writer.specs.Sizing.{Marked, values}
 use Rattle.writer.specs.Filling.{flat, boxed, lettersIn, Fillable}
-use Rattle.writer.specs.Tables.{levelMost, Fitting, Writable, bytesIn, marksIn}
+use Rattle.standard.specs.Outcomes.{levelMost}
+use Rattle.writer.specs.Tables.{Fitting, Writable, bytesIn, marksIn}
 use Rattle.writer.specs.declared.sizing.Extent.{Extent}
 use Rattle.writer.proofs.Flat.{Flattened, flattened}
 use Rattle.writer.proofs.Rows.{boxed-covers}

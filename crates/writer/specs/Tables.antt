@@ -10,14 +10,11 @@ use Rattle.standard.specs.Tree.{Tree}
 use Rattle.standard.specs.Table.{most, table}
 use Rattle.standard.specs.Encode.{encode}
 use Rattle.standard.specs.Outcomes as outcome
+use Rattle.standard.specs.Outcomes.{levelMost}
 use Rattle.writer.specs.Marks.{marks}
 use Rattle.writer.specs.declared.sizing.Extent.{Extent}
 use Rattle.writer.specs.declared.sizing.Sized.{Sized}
 use Rattle.writer.specs.declared.sizing.Sized.the-variants.{Fits, Refused}
-
--- the level limit of the entry points (docs/FORMAT.md, 2.5)
-abbrev pub levelMost : ℕ
-levelMost = 32
 
 -- a table that can be written, with its size and its marks, which stand in the buffer if it has room for them
 pub record Fitting (words letters before after : List ℕ) (e : Extent) : Type 0 where

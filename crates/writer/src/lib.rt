@@ -6,10 +6,11 @@
 // still to be written is never shorter than the marks that are still to be taken, so none is overwritten before its turn.
 ghost use mathlib.Core.Path.{_≡_};
 ghost use Rattle.standard.specs.Outcomes as outcome;
+ghost use Rattle.standard.specs.Outcomes.{levelMost};
 ghost use Prim.Native.Nat.{_-_, _≤_};
 ghost use lib.Seq.{sets};
 ghost use Rattle.standard.specs.Table.{table};
-ghost use Rattle.writer.specs.Tables.{TableSized, Writable, bytesIn, marksIn, levelMost};
+ghost use Rattle.writer.specs.Tables.{TableSized, Writable, bytesIn, marksIn};
 ghost use Rattle.writer.specs.InCode.{writtenIs};
 
 mod filling;
@@ -23,9 +24,6 @@ use sizing::Sized;
 use standard::kind;
 use standard::refusal;
 use standard::refusal::Refusal;
-
-// No value stands beyond this level.
-const LEVELS: usize = 32;
 
 // So many bytes of marks are kept beside the output: those of 64 compounds.
 const NEAR: usize = 192;
@@ -56,7 +54,7 @@ fn size_table(words: &[u64], text: &[u8], marks: &mut [u8]) -> Sized
         0,
         0,
         1,
-        LEVELS,
+        kind::LEVELS,
         IsArrayElement::False,
         marks,
         0,
@@ -103,7 +101,7 @@ fn put_marks(words: &[u64], text: &[u8], near: &[u8], n: usize, m: usize, out: &
         0,
         0,
         1,
-        LEVELS,
+        kind::LEVELS,
         IsArrayElement::False,
         out,
         slot,

@@ -2,7 +2,7 @@
 use borrow.Author.Needs.{needs}
 use mathlib.Core.Path.{sym, _∙_}
 use native.Mathlib.Omega.{arith}
-use Rattle.writer.specs.Tables.{levelMost}
+use Rattle.standard.specs.Outcomes.{levelMost}
 use Rattle.writer.proofs.Whole.{odd-no, value-no, rows-left, text-left, too-long, fitting, row-inside}
 use Rattle.writer.proofs.size_table.Statement.{statement}
 use Rattle.writer.proofs.size_table.Tie as tie
