@@ -3,6 +3,9 @@ pub mod Flat
 pub mod Checks
 pub mod Stores
 pub mod Rows
+pub mod Direct
 pub mod Sums
+pub mod Sizes
+pub mod Turns
 pub mod Whole
 pub mod Writes

@@ -22,7 +22,7 @@ use Rattle.standard.specs.Laws.Tables.{several-sound, tree-sound}
 use Rattle.writer.specs.Heads.{head, itemWidth, bodyOf}
 use Rattle.writer.specs.Marks.{markWidth, marks, marks*}
 use Rattle.writer.specs.Rows.{check}
-use Rattle.writer.specs.Sizing.{sizeIn, total, Marked, headSize, codeWidth, values, Sure}
+use Rattle.writer.specs.Sizing.{sizeIn, total, totalFrom, Marked, headSize, codeWidth, values, Sure, Within, Comes}
 use Rattle.standard.specs.declared.refusal.Refusal.{Refusal}
 use Rattle.writer.specs.declared.sizing.Sized.{Sized}
 use Rattle.writer.specs.declared.sizing.Sized.the-variants.{Fits, Refused}
@@ -104,9 +104,6 @@ values-no : (w x : List ℕ) (l : ℕ) (c : Spot) (n i j a : ℕ) (p : Place) �
 unfolding several
 values-no w x l c zero i j a p h e = absurd (omega arith)
 values-no w x l c (suc n) i j a p h e = rw e
-
-pub check-no : (w x : List ℕ) (l : ℕ) (c : Spot) (n i j a : ℕ) (p : Place) → 0 < n → check l c i (drop (2 * i) w) (drop j x) ≡ refuse a p → values w x l c n i j ≡ refuse a p
-check-no w x l c n i j a p h e = values-no w x l c n i j a p h (tree-checked l c i (drop (2 * i) w) (drop j x) ∙ rw e)
 
 -- the first value, and those behind it
 abbrev joined : Tree → Answer (Trees × List ℕ × List ℕ) → Answer (Trees × List ℕ × List ℕ)
@@ -405,31 +402,16 @@ module _ (w x : List ℕ) (l : ℕ) (c : Spot) (n i j k o m : ℕ) (h : 0 < n) (
       (λ y. marked-node b b₁ b₂ m (markWidth (styleOf k) o) (length (bodyOf (styleOf k) (f .trees))) (marks* (f .trees)) a
       (λ v. marked-got b (m + markWidth (styleOf k) o) b₁ (f .trees) (f .rest) (f .tail) (rw (f .isGot) at g) v) (λ v. rw turned-body at (d v)) y) z (turned-at .2) r)
 
--- The loop: what is left from here comes to what was due at the start
-
-pub record Going (w x : List ℕ) (l : ℕ) (c₀ : Spot) (n₀ i j m : ℕ) (b₀ b : List ℕ) (c : Spot) (e : Extent) (n : ℕ) : Type 0 where
-  pub rows : 2 * (e .row) ≤ length w
-  pub letters : e .text ≤ length x
-  pub marked : e .mark ≤ 2 ^ 62 + 3 * (e .row)
-  pub small : e .size ≤ 10 * (e .row) + e .text
-  pub sure : Sure c
-  pub kept : length b ≡ length b₀
-  pub sum : total c (e .row) (e .text) (e .size) (e .mark) (values w x l c n (e .row) (e .text)) ≡ total c₀ i j 0 m (values w x l c₀ n₀ i j)
-  pub marks : (a : List ℕ) → Marked b (e .mark) a (values w x l c n (e .row) (e .text)) → Marked b₀ m a (values w x l c₀ n₀ i j)
-
-pub begin : (w x : List ℕ) (l : ℕ) (c : Spot) (n i j m : ℕ) (b : List ℕ) → 2 * i ≤ length w → j ≤ length x → m ≤ 2 ^ 62 + 3 * i → Sure c → Going w x l c n i j m b b c (record { row = i; text = j; size = 0; mark = m }) n
-begin w x l c n i j m b h g k p = record { rows = h; letters = g; marked = k; small = omega arith; sure = p; kept = refl; sum = refl; marks = λ a y. y }
-
 -- no value is left
-pub finished : (w x : List ℕ) (l : ℕ) (c : Spot) (n : ℕ) (e : Extent) (b : List ℕ) → n ≤ 0 → (Fits e ≡ total c (e .row) (e .text) (e .size) (e .mark) (values w x l c n (e .row) (e .text))) × Marked b (e .mark) b (values w x l c n (e .row) (e .text))
+pub finished : (w x : List ℕ) (l : ℕ) (c : Spot) (n : ℕ) (e : Extent) (b : List ℕ) → n ≤ 0 → (Fits e ≡ totalFrom c e (values w x l c n (e .row) (e .text))) × Marked b (e .mark) b (values w x l c n (e .row) (e .text))
 unfolding total Marked several tall* text* marks*
 finished w x l c zero e b h = (fits-same (omega arith) (omega arith) (omega (arith, size-none c)) (omega arith), λ r. refl)
 finished w x l c (suc n) e b h = absurd (omega arith)
 
 -- a refusal has nothing behind it
-pub refused-all : (c : Spot) (i j s m a p : ℕ) (b d : List ℕ) (q : Answer (Trees × List ℕ × List ℕ)) → q ≡ refuse a (at p) → (Refused (record { number = a; place = p }) ≡ total c i j s m q) × Marked b m d q
+refused-all : (c : Spot) (o : Extent) (a p : ℕ) (b d : List ℕ) (q : Answer (Trees × List ℕ × List ℕ)) → q ≡ refuse a (at p) → (Refused (record { number = a; place = p }) ≡ totalFrom c o q) × Marked b (o .mark) d q
 unfolding total Marked
-refused-all c i j s m a p b d q e = rw e (refl, tt)
+refused-all c o a p b d q e = rw e (refl, tt)
 
 -- A good row leaves room for itself and its text, and a level for its children
 pub record Stands (w x : List ℕ) (l i j k n : ℕ) : Type 0 where
@@ -437,7 +419,7 @@ pub record Stands (w x : List ℕ) (l i j k n : ℕ) : Type 0 where
   pub letter : j + letters (styleOf k) n ≤ length x
   pub level : 0 < l
 
-checked : (l : ℕ) (c : Spot) (i : ℕ) (w x : List ℕ) → Holds (λ q. (2 ≤ length w) × (letters (styleOf (q .0)) (q .1) ≤ length x) × (0 < l)) (check l c i w x)
+checked : (l : ℕ) (c : Spot) (i : ℕ) (w x : List ℕ) → Holds (λ q. (2 ≤ length w) × (letters (styleOf (q .0)) (q .1) ≤ length x) × (0 < l) × T (allowed c (q .0)) × T (ranged (styleOf (q .0)) (q .0) (q .1)) × (w ≡ q .0 ∷ q .1 ∷ drop 2 w)) (check l c i w x)
 unfolding check
 checked zero c i [] x = no′
 checked zero c i (k ∷ []) x = no′
@@ -447,7 +429,17 @@ checked (suc l) c i (k ∷ []) x = no′
 checked (suc l) c i (k ∷ n ∷ w) x =
     on (need-holds (isKind (styleOf k)) kindUnknown (at i)) (λ u a. on (need-holds (allowed c k) elementUnfit (at i)) (λ u b. on (need-holds (ranged (styleOf k) k n) numberOutside (at i)) (λ u d.
     on (need-holds (leb (letters (styleOf k) n) (length x)) textAmiss (at i)) (λ u e. on (need-holds (clean k (take (letters (styleOf k) n) x)) textAmiss (at i)) (λ u f.
-    yes′ (omega arith, leb→le (letters (styleOf k) n) (length x) e, omega arith))))))
+    yes′ (omega arith, leb→le (letters (styleOf k) n) (length x) e, omega arith, b, d, refl))))))
+
+-- what the checks say of its kind
+pub check-allowed : (l : ℕ) (c : Spot) (i : ℕ) (w x : List ℕ) (k n : ℕ) → check l c i w x ≡ got (k, n) → T (allowed c k)
+check-allowed l c i w x k n e = out (rw e at (checked l c i w x)) .3
+
+pub check-ranged : (l : ℕ) (c : Spot) (i : ℕ) (w x : List ℕ) (k n : ℕ) → check l c i w x ≡ got (k, n) → T (ranged (styleOf k) k n)
+check-ranged l c i w x k n e = out (rw e at (checked l c i w x)) .4
+
+pub check-front : (l : ℕ) (c : Spot) (i : ℕ) (w x : List ℕ) (k n : ℕ) → check l c i w x ≡ got (k, n) → w ≡ k ∷ n ∷ drop 2 w
+check-front l c i w x k n e = out (rw e at (checked l c i w x)) .5
 
 pub stands : (w x : List ℕ) (l : ℕ) (c : Spot) (i j k n : ℕ) → 2 * i ≤ length w → j ≤ length x → check l c i (drop (2 * i) w) (drop j x) ≡ got (k, n) → Stands w x l i j k n
 stands w x l c i j k n h g e =
@@ -485,45 +477,60 @@ unfit c i j s m (refuse x (at p)) f h =
     let q : f ≡ record { number = x; place = p } = cc in
     rw q
 
--- The turn of the loop
-module _ (w x : List ℕ) (l : ℕ) (c₀ : Spot) (n₀ i₀ j₀ m₀ : ℕ) (b₀ b : List ℕ) (c : Spot) (o : Extent) (n : ℕ) (g : Going w x l c₀ n₀ i₀ j₀ m₀ b₀ b c o n) (h : 0 < n)
-    (k num : ℕ) (q : check l c (o .row) (drop (2 * (o .row)) w) (drop (o .text) x) ≡ got (k, num)) (z : Sized) (b₁ : List ℕ) (r : Entered w x l (o .row) (o .text) k num (o .mark) b z b₁) where
+-- A turn: the first of n values is a row of kind k with number `num`, and z is what is behind its children
+module _ (w x : List ℕ) (l : ℕ) (c : Spot) (o : Extent) (n : ℕ) (b : List ℕ) (g : Within w x o) (p : Sure c) (h : 0 < n) (k num : ℕ)
+    (q : check l c (o .row) (drop (2 * (o .row)) w) (drop (o .text) x) ≡ got (k, num)) (z : Sized) (b₁ : List ℕ) (r : Entered w x l (o .row) (o .text) k num (o .mark) b z b₁) where
   module _ (e : Extent) (fits : z ≡ Fits e) where
     spread : Found (firstIn (styleOf k) num) (o .row + 1) (o .text + letters (styleOf k) num) 0 (o .mark + markWidth (styleOf k) num) (below w x l (o .row) (o .text) k num) e
     spread = found (firstIn (styleOf k) num) (o .row + 1) (o .text + letters (styleOf k) num) 0 (o .mark + markWidth (styleOf k) num) (below w x l (o .row) (o .text) k num) e (sym fits ∙ r .sums)
 
-    -- all that the turn adds up is small
-    pub turn-small : (o .size + (headSize c (styleOf k) k num (codeWidth (styleOf k) num + e .size) + letters (styleOf k) num + (codeWidth (styleOf k) num + e .size)) ≤ 10 * (e .row) + e .text) × (2 * (e .row) ≤ length w) × (e .text ≤ length x)
-    turn-small = (
-      again-size w x l c n (o .row) (o .text) k num (o .mark) h (g .sure) q e spread (o .size) (g .small),
-      again-rows w x l c n (o .row) (o .text) k num (o .mark) h (g .sure) q e spread (g .rows),
-      again-text w x l c n (o .row) (o .text) k num (o .mark) h (g .sure) q e spread (g .letters),
-    )
+    -- the place behind the value is in the table
+    pub turn-within : Within w x (record { row = e .row; text = e .text; size = o .size + (headSize c (styleOf k) k num (codeWidth (styleOf k) num + e .size) + letters (styleOf k) num + (codeWidth (styleOf k) num + e .size)); mark = e .mark })
+    turn-within = record {
+      rows = again-rows w x l c n (o .row) (o .text) k num (o .mark) h p q e spread (g .rows);
+      letters = again-text w x l c n (o .row) (o .text) k num (o .mark) h p q e spread (g .letters);
+      marked = again-mark w x l c n (o .row) (o .text) k num (o .mark) h p q e spread (g .marked);
+      small = again-size w x l c n (o .row) (o .text) k num (o .mark) h p q e spread (o .size) (g .small);
+    }
 
-    pub turn : (s : Style) (le cw mw hs : ℕ) (b₂ : List ℕ) (d : Spot) → s ≡ styleOf k → le ≡ letters s num → cw ≡ codeWidth s num → mw ≡ markWidth s num → hs ≡ headSize c (styleOf k) k num (cw + e .size)
-        → (o .mark + mw ≤ length b₁ → b₂ ≡ sets b₁ (o .mark) (be mw (cw + e .size))) → length b₂ ≡ length b₁ → d ≡ next c k
-        → Going w x l c₀ n₀ i₀ j₀ m₀ b₀ b₂ d (record { row = e .row; text = e .text; size = o .size + (hs + le + (cw + e .size)); mark = e .mark }) (n - 1)
-    turn s le cw mw hs b₂ d es el ec em eh put kept ed =
-        let al : le ≡ letters (styleOf k) num = rw es at el in
-        let ac : cw ≡ codeWidth (styleOf k) num = rw es at ec in
-        let am : mw ≡ markWidth (styleOf k) num = rw es at em in
-        let ah : hs ≡ headSize c (styleOf k) k num (codeWidth (styleOf k) num + e .size) = rw ac at eh in
-        rw (ed, al, ah, ac)
-        record {
-          rows = turn-small .1;
-          letters = turn-small .2;
-          marked = again-mark w x l c n (o .row) (o .text) k num (o .mark) h (g .sure) q e spread (g .marked);
-          small = turn-small .0;
-          sure = again-sure w x l c n (o .row) (o .text) k num (o .mark) h (g .sure) q e spread;
-          kept = kept ∙ r .kept ∙ g .kept;
-          sum = again-sum w x l c n (o .row) (o .text) k num (o .mark) h (g .sure) q e spread (o .size) ∙ g .sum;
-          marks = λ a y. g .marks a (again-marked w x l c n (o .row) (o .text) k num (o .mark) h (g .sure) q e spread b b₁ b₂ a (r .marks) (r .kept) (rw (am, ac) at put) y (kept ∙ r .kept));
-        }
+    pub turn-sure : Sure (next c k)
+    turn-sure = again-sure w x l c n (o .row) (o .text) k num (o .mark) h p q e spread
 
-  -- a refusal below is the refusal of all
-  pub turn-no : (f : Refusal) → z ≡ Refused f → (after : List ℕ) → (z ≡ total c₀ i₀ j₀ 0 m₀ (values w x l c₀ n₀ i₀ j₀)) × Marked b₀ m₀ after (values w x l c₀ n₀ i₀ j₀)
-  turn-no f e after =
+    -- and n values come to those from there on
+    pub turn-comes : (b₂ : List ℕ) → (o .mark + markWidth (styleOf k) num ≤ length b₁ → b₂ ≡ sets b₁ (o .mark) (be (markWidth (styleOf k) num) (codeWidth (styleOf k) num + e .size))) → length b₂ ≡ length b₁
+        → Comes w x l c o n b (next c k) (record { row = e .row; text = e .text; size = o .size + (headSize c (styleOf k) k num (codeWidth (styleOf k) num + e .size) + letters (styleOf k) num + (codeWidth (styleOf k) num + e .size)); mark = e .mark }) (n - 1) b₂
+    turn-comes b₂ put kept = record {
+      kept = kept ∙ r .kept;
+      sum = again-sum w x l c n (o .row) (o .text) k num (o .mark) h p q e spread (o .size);
+      marks = λ a y. again-marked w x l c n (o .row) (o .text) k num (o .mark) h p q e spread b b₁ b₂ a (r .marks) (r .kept) put y (kept ∙ r .kept);
+    }
+
+  -- a refusal below is the refusal of the value
+  pub turn-no : (f : Refusal) → z ≡ Refused f → tree l c (o .row) (drop (2 * (o .row)) w) (drop (o .text) x) ≡ refuse (f .number) (at (f .place))
+  turn-no f e =
       let a = unfit (firstIn (styleOf k) num) (o .row + 1) (o .text + letters (styleOf k) num) 0 (o .mark + markWidth (styleOf k) num) (below w x l (o .row) (o .text) k num) f (sym e ∙ r .sums) in
-      let t : values w x l c n (o .row) (o .text) ≡ refuse (f .number) (at (f .place)) = values-no w x l c n (o .row) (o .text) (f .number) (at (f .place)) h (value-is w x l c (o .row) (o .text) k num q ∙ rw a) in
-      let y = refused-all c (o .row) (o .text) (o .size) (o .mark) (f .number) (f .place) b after (values w x l c n (o .row) (o .text)) t in
-      (e ∙ y .0 ∙ g .sum, g .marks after (y .1))
+      value-is w x l c (o .row) (o .text) k num q ∙ rw a
+
+-- The loop: what is left from here comes to what was due at the start
+
+pub comes-self : (w x : List ℕ) (l : ℕ) (c : Spot) (o : Extent) (n : ℕ) (b : List ℕ) → Comes w x l c o n b c o n b
+comes-self w x l c o n b = record { kept = refl; sum = refl; marks = λ z y. y }
+
+pub comes-on : {w x : List ℕ} {l : ℕ} {c₀ c d : Spot} {o₀ o e : Extent} {n₀ n m : ℕ} {b₀ b a : List ℕ} → Comes w x l c₀ o₀ n₀ b₀ c o n b → Comes w x l c o n b d e m a → Comes w x l c₀ o₀ n₀ b₀ d e m a
+comes-on f g = record { kept = g .kept ∙ f .kept; sum = g .sum ∙ f .sum; marks = λ z y. f .marks z (g .marks z y) }
+
+-- at the end nothing is left
+pub comes-end : {w x : List ℕ} {l : ℕ} {c₀ c : Spot} {o₀ o : Extent} {n₀ n : ℕ} {b₀ b : List ℕ} → Comes w x l c₀ o₀ n₀ b₀ c o n b → n ≤ 0
+    → (Fits o ≡ totalFrom c₀ o₀ (values w x l c₀ n₀ (o₀ .row) (o₀ .text))) × Marked b₀ (o₀ .mark) b (values w x l c₀ n₀ (o₀ .row) (o₀ .text))
+comes-end {w = w} {x = x} {l = l} {c = c} {o = o} {n = n} {b = b} f h = let y = finished w x l c n o b h in (y .0 ∙ f .sum, f .marks b (y .1))
+
+-- a refusal of the next value is the refusal of all
+pub comes-no : {w x : List ℕ} {l : ℕ} {c₀ c : Spot} {o₀ o : Extent} {n₀ n : ℕ} {b₀ b : List ℕ} → Comes w x l c₀ o₀ n₀ b₀ c o n b → 0 < n → (a p : ℕ) (d : List ℕ)
+    → tree l c (o .row) (drop (2 * (o .row)) w) (drop (o .text) x) ≡ refuse a (at p)
+    → (Refused (record { number = a; place = p }) ≡ totalFrom c₀ o₀ (values w x l c₀ n₀ (o₀ .row) (o₀ .text))) × Marked b₀ (o₀ .mark) d (values w x l c₀ n₀ (o₀ .row) (o₀ .text))
+comes-no {w = w} {x = x} {l = l} {c = c} {o = o} {n = n} {b = b} f h a p d e =
+    let y = refused-all c o a p b d (values w x l c n (o .row) (o .text)) (values-no w x l c n (o .row) (o .text) a (at p) h e) in (y .0 ∙ f .sum, f .marks d (y .1))
+
+-- a check that fails is a refusal
+pub check-no : (w x : List ℕ) (l : ℕ) (c : Spot) (i j a : ℕ) (p : Place) → check l c i (drop (2 * i) w) (drop j x) ≡ refuse a p → tree l c i (drop (2 * i) w) (drop j x) ≡ refuse a p
+check-no w x l c i j a p e = tree-checked l c i (drop (2 * i) w) (drop j x) ∙ rw e

@@ -3,8 +3,11 @@
 use Prim.Native.Nat.{ℕ, zero, suc, _+_, _*_, _%_, _≤_}
 use mathlib.Core.Path.{_≡_}
 use mathlib.Core.List.{List, [], _∷_, _++_}
+use mathlib.Core.Bool.{Bool, true, false}
+use lib.Dec.{eqb}
 use lib.ListN.{length, take, drop, getD}
 use lib.Seq.{sets}
+use Rattle.standard.specs.Choose.{if}
 use Rattle.standard.specs.Bytes.{be, unbe}
 use Rattle.standard.specs.Kinds.{Style, foreign, numbered, blob, lettered, listed, mapped, arrayed, describing, styleOf}
 use Rattle.standard.specs.Table.{letters}
@@ -61,6 +64,42 @@ lettersIn [] = 0
 lettersIn (k ∷ []) = 0
 lettersIn (k ∷ n ∷ w) = letters (styleOf k) n + lettersIn w
 
+-- Rows that are written by their kind at once, without a style: `number-head` and `compound-head` of proofs/Direct.antt say that their
+-- head is all of them
+
+abbrev pub isNumber : Style → Bool
+isNumber foreign = false
+isNumber (numbered s w) = true
+isNumber (blob w) = false
+isNumber (lettered s) = false
+isNumber (listed e s) = false
+isNumber (mapped s) = false
+isNumber (arrayed s) = false
+isNumber describing = false
+
+abbrev pub isListOrMap : Style → Bool
+isListOrMap foreign = false
+isListOrMap (numbered s w) = false
+isListOrMap (blob w) = false
+isListOrMap (lettered s) = false
+isListOrMap (listed e s) = true
+isListOrMap (mapped s) = true
+isListOrMap (arrayed s) = false
+isListOrMap describing = false
+
+-- the head of a number; nothing of other rows
+unfoldable pub numberHead : Style → (kind number : ℕ) → List ℕ
+numberHead s k n = if (isNumber s) (head s k n 0) []
+
+-- the head of a list or a map that is not empty; nothing of other rows
+unfoldable pub compoundHead : Style → (kind count body : ℕ) → List ℕ
+compoundHead s k n b = if (eqb n 0) [] (if (isListOrMap s) (head s k n b) [])
+
+-- bytes are stored at a place, and r is how many
+pub record Put (bytes before : List ℕ) (at : ℕ) (after : List ℕ) (r : ℕ) : Type 0 where
+  pub size : r ≡ length bytes
+  pub stored : after ≡ sets before at bytes
+
 -- Writing n bytes by the marks that stand at the end of them
 
 pub record Fillable (words text out : List ℕ) (n mark : ℕ) : Type 0 where
@@ -72,6 +111,10 @@ pub record Fillable (words text out : List ℕ) (n mark : ℕ) : Type 0 where
 
 abbrev pub fresh : (mark : ℕ) → Cursor
 fresh m = record { row = 0; text = 0; at = 0; mark = m; elements = 0 }
+
+-- behind a row of so many bytes, without text, with a mark of that width
+abbrev pub behind : Cursor → (size width : ℕ) → Cursor
+behind c s w = record { row = c .row + 1; text = c .text; at = c .at + s; mark = c .mark + w; elements = 0 }
 
 -- of the row at a cursor: its kind and number, its bytes of text, the width of its mark, the elements due behind it, and its bytes
 abbrev pub kindAt : (words : List ℕ) → Cursor → ℕ

@@ -1,18 +1,22 @@
 -- What sizing finds of values that stand one after another in a table.
-use Prim.Native.Nat.{ℕ, _+_, _*_, _%_, _≤_}
+use Prim.Native.Nat.{ℕ, zero, suc, _+_, _*_, _-_, _%_, _^_, _≤_, _<_}
 use mathlib.Core.Path.{_≡_}
-use mathlib.Core.List.{List}
-use lib.Dec.{T, eqb}
+use mathlib.Core.List.{List, [], _∷_}
+use mathlib.Core.Bool.{Bool, true, false, _&&_}
+use lib.Dec.{T, eqb, ltb}
 use lib.ListN.{length, drop}
 use lib.Seq.{sets}
 use Rattle.standard.specs.Choose.{if}
 use Rattle.standard.specs.Answer.{Answer, got, refuse, at}
 use Rattle.standard.specs.Tree.{Trees, tall*, text*}
 use Rattle.standard.specs.Kinds.{Style, foreign, numbered, blob, lettered, listed, mapped, arrayed, describing, styleOf, plain}
-use Rattle.standard.specs.Table.{Spot, any, first, like, several, tree}
-use Rattle.standard.specs.Encode.{encode*, payloads}
+use Rattle.standard.specs.Table.{Spot, any, first, like, ranged, several, tree}
+use Rattle.standard.specs.Encode.{shortest, encode*, payloads}
 use Rattle.writer.specs.Heads.{head, itemWidth}
 use Rattle.writer.specs.Marks.{marks*}
+use Rattle.writer.specs.declared.sizing.Extent.{Extent}
+use Rattle.writer.specs.declared.sizing.Taken.{Taken}
+use Rattle.writer.specs.declared.sizing.Taken.the-variants.{Number, Open, Other}
 use Rattle.writer.specs.declared.sizing.Sized.{Sized}
 use Rattle.writer.specs.declared.sizing.Sized.the-variants.{Fits, Refused}
 
@@ -26,6 +30,9 @@ sizeIn (like k) vs = length (payloads vs)
 unfoldable pub total : Spot → (row text size mark : ℕ) → Answer (Trees × List ℕ × List ℕ) → Sized
 total c i j s m (got (vs, u, y)) = Fits (record { row = i + tall* vs; text = j + length (text* vs); size = s + sizeIn c vs; mark = m + length (marks* vs) })
 total c i j s m (refuse x (at p)) = Refused (record { number = x; place = p })
+
+abbrev pub totalFrom : Spot → Extent → Answer (Trees × List ℕ × List ℕ) → Sized
+totalFrom c o a = total c (o .row) (o .text) (o .size) (o .mark) a
 
 -- the marks of values stand in a buffer from m on, if it has room for them
 unfoldable pub Marked : (before : List ℕ) → (mark : ℕ) → (after : List ℕ) → Answer (Trees × List ℕ × List ℕ) → Type 0
@@ -58,3 +65,71 @@ abbrev pub Sure : Spot → Type 0
 Sure any = Unit {0}
 Sure first = Unit {0}
 Sure (like k) = T (plain (styleOf k))
+
+-- What a row is, as far as sizing goes on without further checks
+
+-- does a row hold values with codes of their own
+unfoldable pub holder : Style → Bool
+holder foreign = false
+holder (numbered s w) = false
+holder (blob w) = false
+holder (lettered s) = false
+holder (listed e s) = true
+holder (mapped s) = true
+holder (arrayed s) = false
+holder describing = true
+
+-- and some of them, with a number in range
+unfoldable pub opens : Style → (kind number : ℕ) → Bool
+opens s k n = holder s && (ltb 0 n && ranged s k n)
+
+-- the bytes of a number that stands in no array; 0 where a row holds none, or one that is not in range
+unfoldable pub numberSize : Style → (kind number : ℕ) → ℕ
+numberSize foreign k n = 0
+numberSize (numbered s w) k n = if (ranged (numbered s w) k n) (length (shortest s w (k % 256) n)) 0
+numberSize (blob w) k n = 0
+numberSize (lettered s) k n = 0
+numberSize (listed e s) k n = 0
+numberSize (mapped s) k n = 0
+numberSize (arrayed s) k n = 0
+numberSize describing k n = 0
+
+abbrev pub other : Taken
+other = Other
+
+abbrev pub alone : (size : ℕ) → Taken
+alone zero = Other
+alone (suc z) = Number (suc z)
+
+-- the row in front of words, where so many levels are left
+unfoldable pub takenOf : (levels : ℕ) → (words : List ℕ) → Taken
+takenOf zero w = Other
+takenOf (suc l) [] = Other
+takenOf (suc l) (k ∷ []) = Other
+takenOf (suc l) (k ∷ n ∷ w) = if (opens (styleOf k) k n) (Open k n) (alone (numberSize (styleOf k) k n))
+
+-- A place in a table
+
+abbrev pub start : (mark : ℕ) → Extent
+start m = record { row = 0; text = 0; size = 0; mark = m }
+
+abbrev pub past : Extent → (letters size : ℕ) → Extent
+past o n z = record { row = o .row + 1; text = o .text + n; size = o .size + z; mark = o .mark }
+
+-- its rows and text are there, and its sums are small
+pub record Within (words text : List ℕ) (o : Extent) : Type 0 where
+  pub rows : 2 * (o .row) ≤ length words
+  pub letters : o .text ≤ length text
+  pub marked : o .mark ≤ 2 ^ 62 + 3 * (o .row)
+  pub small : o .size ≤ 10 * (o .row) + o .text
+
+-- n values from o on, at spot c and over the buffer b, come to m values from e on, at spot d and over a
+pub record Comes (words text : List ℕ) (levels : ℕ) (c : Spot) (o : Extent) (n : ℕ) (b : List ℕ) (d : Spot) (e : Extent) (m : ℕ) (a : List ℕ) : Type 0 where
+  pub kept : length a ≡ length b
+  pub sum : totalFrom d e (values words text levels d m (e .row) (e .text)) ≡ totalFrom c o (values words text levels c n (o .row) (o .text))
+  pub marks : (z : List ℕ) → Marked a (e .mark) z (values words text levels d m (e .row) (e .text)) → Marked b (o .mark) z (values words text levels c n (o .row) (o .text))
+
+-- what sizing says of the value at o alone: the place behind it, or its refusal
+abbrev pub Rowed : (words text : List ℕ) → (levels : ℕ) → Extent → (before after : List ℕ) → Sized → Type 0
+Rowed w x l o b a (Fits e) = Within w x e × ((n : ℕ) → 0 < n → Comes w x l any o n b any e (n - 1) a)
+Rowed w x l o b a (Refused f) = tree l any (o .row) (drop (2 * (o .row)) w) (drop (o .text) x) ≡ refuse (f .number) (at (f .place))

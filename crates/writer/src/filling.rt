@@ -1,18 +1,25 @@
 // Writing the rows of a table that sizing has accepted, one after another, by the marks of its compounds.
 ghost use mathlib.Core.Path.{_≡_};
-ghost use Prim.Native.Nat.{_+_, _*_, _^_, _≤_, _<_};
+ghost use Prim.Native.Nat.{_+_, _*_, _%_, _^_, _≤_, _<_};
 ghost use lib.ListN.{length, take, drop};
 ghost use lib.Seq.{sets};
 ghost use Rattle.standard.specs.Bytes.{unbe};
+ghost use Rattle.standard.specs.Kinds.{styleOf};
 ghost use Rattle.standard.specs.InCode.{styleIs};
-ghost use Rattle.writer.specs.Heads.{headIs};
+ghost use Rattle.writer.specs.Heads.{enclosure, headIs};
 ghost use Rattle.writer.specs.Marks.{markWidth};
-ghost use Rattle.writer.specs.Filling.{flat, elementsOf, elementCode, Fillable, Ready, fresh, Stepped};
+ghost use Rattle.writer.specs.Filling.{flat, elementsOf, elementCode, compoundHead, Put, Fillable, Ready, fresh, behind, Stepped};
 use crate::head;
 use crate::head::Head;
 use crate::put;
+use standard::format_code;
+use standard::format_code::Compound8;
+use standard::format_code::Compound32;
 use standard::kind;
 use standard::kind::Style;
+
+// A mark's bytes.
+const MARK_WIDTH: usize = 3;
 
 // The next row and its text, where it is written, the next mark, and how many elements of an array are due.
 pub struct Cursor {
@@ -35,6 +42,20 @@ impl Cursor {
             elements: 0,
         }
     }
+
+    // Behind a row of so many bytes, without text, with a mark of that width.
+    fn behind(self, size: usize, width: usize) -> Self
+        requires { ⌜ (self .row + 1 < 2 ^ 64) × (self .at + size < 2 ^ 64) × (self .mark + width < 2 ^ 64) ⌝ }
+        ensures { λ r. ⌜ r ≡ behind self size width ⌝ }
+    {
+        Self {
+            row: self.row + 1,
+            text: self.text,
+            at: self.at + size,
+            mark: self.mark + width,
+            elements: 0,
+        }
+    }
 }
 
 // The width of a row's mark: compounds that are not empty have one.
@@ -49,14 +70,14 @@ pub(crate) fn mark_width(style: Style, number: u64) -> usize
         Style::Numbered(_, _) => 0,
         Style::Blob(_) => 0,
         Style::Lettered(_) => 0,
-        Style::Listed(_, _) => 3,
-        Style::Mapped(_) => 3,
-        Style::Arrayed(_) => 3,
+        Style::Listed(_, _) => MARK_WIDTH,
+        Style::Mapped(_) => MARK_WIDTH,
+        Style::Arrayed(_) => MARK_WIDTH,
         Style::Describing => 0,
     }
 }
 
-fn elements_of(style: Style, number: u64) -> u64
+pub(crate) fn elements_of(style: Style, number: u64) -> u64
     ensures { λ r. ⌜ r ≡ elementsOf (styleIs style) number ⌝ }
 {
     match style {
@@ -103,8 +124,7 @@ fn put_head(out: &mut [u8], at: usize, h: Head)
 // The code of an array's elements, which is the kind of the next row; nothing where there are none. The number of bytes written.
 fn put_code(words: &[u64], row: usize, elements: u64, out: &mut [u8], at: usize) -> usize
     requires { ⌜ (2 * row ≤ length (now words)) × (at + length (elementCode elements (drop (2 * row) (now words))) ≤ length (now out)) ⌝ }
-    ensures { λ r. ⌜ (r ≡ length (elementCode elements (drop (2 * row) (now (words .entry)))))
-        × (now (out .exit) ≡ sets (now (out .entry)) at (elementCode elements (drop (2 * row) (now (words .entry))))) ⌝ }
+    ensures { λ r. ⌜ Put (elementCode elements (drop (2 * row) (now (words .entry)))) (now (out .entry)) at (now (out .exit)) r ⌝ }
 {
     let k = 2 * row;
     if elements == 0 {
@@ -117,8 +137,8 @@ fn put_code(words: &[u64], row: usize, elements: u64, out: &mut [u8], at: usize)
     1
 }
 
-// A row that is a value of its own: its head, its text, and the code of its elements.
-fn put_value(words: &[u64], text: &[u8], out: &mut [u8], n: usize, c: Cursor) -> Cursor
+// A row that is a value of its own, of any style: its head, its text, and the code of its elements.
+fn put_styled(words: &[u64], text: &[u8], out: &mut [u8], n: usize, c: Cursor) -> Cursor
     requires { ⌜ (c .elements ≡ 0) × Ready (now words) (now text) (now out) n c ⌝ }
     ensures { λ r. ⌜ Stepped (now (words .entry)) (now (text .entry)) (now (out .entry)) n c (now (out .exit)) r ⌝ }
 {
@@ -147,6 +167,73 @@ fn put_value(words: &[u64], text: &[u8], out: &mut [u8], n: usize, c: Cursor) ->
         mark: mark + width,
         elements,
     }
+}
+
+// What stands before a body whose size is in a mark.
+fn put_enclosure(out: &mut [u8], at: usize, short: u8, code: u8, count: u64, mark: usize) -> usize
+    requires { ⌜ (mark + 3 ≤ length (now out)) × (at + length (enclosure short code count (unbe (take 3 (drop mark (now out))))) ≤ length (now out)) ⌝ }
+    ensures { λ r. ⌜ Put (enclosure short code count (unbe (take 3 (drop mark (now (out .entry)))))) (now (out .entry)) at (now (out .exit)) r ⌝ }
+{
+    let body = mark_at(out, mark, MARK_WIDTH) as u64;
+    if body < head::SHORT_END {
+        return put::put_sized(out, at, short, Compound8::COUNT_WIDTH, body, count);
+    }
+    put::put_sized(out, at, code, Compound32::COUNT_WIDTH, body, count)
+}
+
+// The head of a list or a map that is not empty; nothing for other rows.
+fn put_compound(out: &mut [u8], at: usize, kind: u64, count: u64, mark: usize) -> usize
+    requires { ⌜ (mark + markWidth (styleOf kind) count ≤ length (now out))
+        × (at + length (compoundHead (styleOf kind) (kind % 256) count (unbe (take 3 (drop mark (now out))))) ≤ length (now out)) ⌝ }
+    ensures { λ r. ⌜ Put (compoundHead (styleOf kind) (kind % 256) count (unbe (take 3 (drop mark (now (out .entry)))))) (now (out .entry)) at (now (out .exit)) r ⌝ }
+{
+    if count == 0 {
+        return 0;
+    }
+    match kind {
+        0xd0 => put_enclosure(
+            out,
+            at,
+            format_code::LIST_8,
+            format_code::LIST_32,
+            count,
+            mark,
+        ),
+        0xd1 => put_enclosure(
+            out,
+            at,
+            format_code::MAP_8,
+            format_code::MAP_32,
+            count,
+            mark,
+        ),
+        _ => 0,
+    }
+}
+
+// A row that is a value of its own. Numbers, lists and maps that are not empty, and described values go by their kind at once, which is
+// faster than by a style: they are most rows, and have no text.
+fn put_value(words: &[u64], text: &[u8], out: &mut [u8], n: usize, c: Cursor) -> Cursor
+    requires { ⌜ (c .elements ≡ 0) × Ready (now words) (now text) (now out) n c ⌝ }
+    ensures { λ r. ⌜ Stepped (now (words .entry)) (now (text .entry)) (now (out .entry)) n c (now (out .exit)) r ⌝ }
+{
+    let k = 2 * c.row;
+    let kind = words[k];
+    let number = words[k + 1];
+    let at = c.at;
+    let size = put::put_number(out, at, kind, number);
+    if 0 < size {
+        return c.behind(size, 0);
+    }
+    let size = put_compound(out, at, kind, number, c.mark);
+    if 0 < size {
+        return c.behind(size, MARK_WIDTH);
+    }
+    if kind == 0x00 {
+        out[at] = format_code::DESCRIBED;
+        return c.behind(1, 0);
+    }
+    put_styled(words, text, out, n, c)
 }
 
 // A row that is an element of an array: its number in full width, and its text.

@@ -1,10 +1,12 @@
 // What stands before a row's text: the format code, and its number or its size and count (docs/FORMAT.md, 3).
 ghost use mathlib.Core.Path.{_≡_};
 ghost use mathlib.Core.List.{[], _∷_};
-ghost use Prim.Native.Nat.{_+_, _%_, _<_, _^_};
+ghost use Prim.Native.Nat.{ℕ, _+_, _%_, _<_, _^_};
+ghost use lib.ListN.{length};
 ghost use lib.Dec.{eqb, ltb};
 ghost use Rattle.standard.specs.Choose.{if};
 ghost use Rattle.standard.specs.Bytes.{be};
+ghost use Rattle.standard.specs.Kinds.{styleOf};
 ghost use Rattle.standard.specs.Encode.{shortest, shortEnd};
 ghost use Rattle.standard.specs.InCode.{styleIs, shortIs};
 ghost use Rattle.writer.specs.Heads.{enclosure, head, itemWidth, headIs};
@@ -15,7 +17,7 @@ use standard::kind::Short;
 use standard::kind::Style;
 
 // Texts and bodies of fewer bytes than this take the short form.
-const SHORT_END: u64 = 255;
+pub(crate) const SHORT_END: u64 = 255;
 
 // A format code, and up to two numbers behind it with their widths in bytes.
 pub struct Head {
@@ -143,6 +145,67 @@ pub(crate) fn head_of(style: Style, kind: u64, number: u64, body: usize) -> Head
         Style::Mapped(short) => write_compound(short, code, number, body),
         Style::Arrayed(short) => write_compound(short, code, number, body),
         Style::Describing => Head::bare(code),
+    }
+}
+
+fn number_width(short: Short, width: usize, number: u64) -> usize
+    ensures { λ r. ⌜ ((c : ℕ) → length (shortest (shortIs short) width c number) ≡ 1 + r) ⌝ }
+{
+    match short {
+        Short::Never => width,
+        Short::Flag(_, _) => 0,
+        Short::Unsigned(_, _) => {
+            if number == 0 {
+                return 0;
+            }
+            if number < 256 {
+                return 1;
+            }
+            width
+        }
+        Short::Signed(_) => {
+            if kind::fits_byte(number, width) {
+                return 1;
+            }
+            width
+        }
+    }
+}
+
+// Code, size and count before a body of so many bytes.
+pub(crate) fn compound_width(body: usize) -> usize
+    ensures { λ r. ⌜ r ≡ if (ltb body shortEnd) 3 9 ⌝ }
+{
+    if body < SHORT_END as usize {
+        return 1 + 2 * Compound8::COUNT_WIDTH;
+    }
+    1 + 2 * Compound32::COUNT_WIDTH
+}
+
+// How many bytes stand before the text of a value whose body has so many bytes.
+pub(crate) fn head_width(style: Style, kind: u64, number: u64, body: usize) -> usize
+    requires { ⌜ styleIs style ≡ styleOf kind ⌝ }
+    ensures { λ r. ⌜ r ≡ length (head (styleIs style) (kind % 256) number body) ⌝ }
+{
+    match style {
+        Style::Foreign => 1,
+        Style::Numbered(short, width) => 1 + number_width(short, width, number),
+        Style::Blob(_) => 1,
+        Style::Lettered(_) => {
+            if number < SHORT_END {
+                return 2;
+            }
+            5
+        }
+        Style::Listed(_, _) => {
+            if number == 0 {
+                return 1;
+            }
+            compound_width(body)
+        }
+        Style::Mapped(_) => compound_width(body),
+        Style::Arrayed(_) => compound_width(body),
+        Style::Describing => 1,
     }
 }
 

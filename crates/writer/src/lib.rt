@@ -15,11 +15,12 @@ ghost use Rattle.writer.specs.InCode.{writtenIs};
 
 mod filling;
 mod head;
+mod number;
 mod put;
 mod row;
 mod sizing;
 
-use row::IsArrayElement;
+use sizing::Extent;
 use sizing::Sized;
 use standard::kind;
 use standard::refusal;
@@ -48,17 +49,7 @@ fn size_table(words: &[u64], text: &[u8], marks: &mut [u8]) -> Sized
     if n % 2 == 1 {
         return refuse(refusal::ROWS_AMISS, 0);
     }
-    let all = sizing::size_values(
-        words,
-        text,
-        0,
-        0,
-        1,
-        kind::LEVELS,
-        IsArrayElement::False,
-        marks,
-        0,
-    );
+    let all = sizing::size_values(words, text, 1, kind::LEVELS, marks, Extent::new(0));
     let Sized::Fits(e) = all else {
         return all;
     };
@@ -95,17 +86,7 @@ fn put_marks(words: &[u64], text: &[u8], near: &[u8], n: usize, m: usize, out: &
         put::put_text(out, slot, near, 0, m);
         return;
     }
-    sizing::size_values(
-        words,
-        text,
-        0,
-        0,
-        1,
-        kind::LEVELS,
-        IsArrayElement::False,
-        out,
-        slot,
-    );
+    sizing::size_values(words, text, 1, kind::LEVELS, out, Extent::new(slot));
 }
 
 // Writes a table of n bytes with m bytes of marks.

@@ -1,9 +1,17 @@
-// Stores into the output: big-endian numbers and runs of text.
+// Stores into the output: big-endian numbers, runs of text, and what begins with a format code.
 ghost use mathlib.Core.Path.{_≡_};
-ghost use Prim.Native.Nat.{_+_, _≤_};
+ghost use mathlib.Core.List.{[], _∷_, _++_};
+ghost use Prim.Native.Nat.{_+_, _%_, _^_, _≤_, _<_};
+ghost use lib.Dec.{eqb};
 ghost use lib.ListN.{length, take, drop};
 ghost use lib.Seq.{sets};
+ghost use Rattle.standard.specs.Choose.{if};
 ghost use Rattle.standard.specs.Bytes.{be};
+ghost use Rattle.standard.specs.Kinds.{unsigned, signed, styleOf};
+ghost use Rattle.standard.specs.Encode.{shortest};
+ghost use Rattle.writer.specs.Filling.{numberHead, Put};
+use standard::format_code;
+use standard::kind;
 
 fn put_two(out: &mut [u8], at: usize, number: u64)
     requires { ⌜ at + 2 ≤ length (now out) ⌝ }
@@ -84,5 +92,125 @@ pub(crate) fn put_text(out: &mut [u8], at: usize, text: &[u8], from: usize, coun
     while k < count {
         out[at + k] = text[from + k];
         k += 1;
+    }
+}
+
+// A code, and a number of so many bytes behind it. This and the functions below give the number of bytes that they write.
+fn put_coded(out: &mut [u8], at: usize, code: u8, width: usize, number: u64) -> usize
+    requires { ⌜ at + length (code ∷ be width number) ≤ length (now out) ⌝ }
+    ensures { λ r. ⌜ Put (code ∷ be width number) (now (out .entry)) at (now (out .exit)) r ⌝ }
+{
+    out[at] = code;
+    put_be(out, at + 1, width, number);
+    1 + width
+}
+
+// A code, and the size and the count of a body in so many bytes each. The size takes in the bytes of the count.
+pub(crate) fn put_sized(
+    out: &mut [u8],
+    at: usize,
+    code: u8,
+    width: usize,
+    body: u64,
+    count: u64,
+) -> usize
+    requires { ⌜ (width + body < 2 ^ 64) × (at + length (code ∷ be width (width + body) ++ be width count) ≤ length (now out)) ⌝ }
+    ensures { λ r. ⌜ Put (code ∷ be width (width + body) ++ be width count) (now (out .entry)) at (now (out .exit)) r ⌝ }
+{
+    let size = put_coded(out, at, code, width, width as u64 + body);
+    put_be(out, at + size, width, count);
+    size + width
+}
+
+// A boolean: a code for 1, and a code for 0.
+fn put_flag(out: &mut [u8], at: usize, one: u8, zero: u8, number: u64) -> usize
+    requires { ⌜ at + 1 ≤ length (now out) ⌝ }
+    ensures { λ r. ⌜ Put (if (eqb number 0) (zero ∷ []) (one ∷ [])) (now (out .entry)) at (now (out .exit)) r ⌝ }
+{
+    if number == 0 {
+        return put_coded(out, at, zero, 0, number);
+    }
+    put_coded(out, at, one, 0, number)
+}
+
+// An unsigned number: a code for 0, or a code and a byte, or a code and all bytes.
+fn put_unsigned(
+    out: &mut [u8],
+    at: usize,
+    zero: u8,
+    byte: u8,
+    code: u8,
+    width: usize,
+    number: u64,
+) -> usize
+    requires { ⌜ at + length (shortest (unsigned zero byte) width code number) ≤ length (now out) ⌝ }
+    ensures { λ r. ⌜ Put (shortest (unsigned zero byte) width code number) (now (out .entry)) at (now (out .exit)) r ⌝ }
+{
+    if number == 0 {
+        return put_coded(out, at, zero, 0, number);
+    }
+    if number < 256 {
+        return put_coded(out, at, byte, 1, number);
+    }
+    put_coded(out, at, code, width, number)
+}
+
+// A number in two's complement: a code and a byte, or a code and all bytes.
+fn put_signed(out: &mut [u8], at: usize, byte: u8, code: u8, width: usize, number: u64) -> usize
+    requires { ⌜ at + length (shortest (signed byte) width code number) ≤ length (now out) ⌝ }
+    ensures { λ r. ⌜ Put (shortest (signed byte) width code number) (now (out .entry)) at (now (out .exit)) r ⌝ }
+{
+    if kind::fits_byte(number, width) {
+        return put_coded(out, at, byte, 1, number);
+    }
+    put_coded(out, at, code, width, number)
+}
+
+// A number in the shortest form of its kind; nothing for a kind that holds no number.
+pub(crate) fn put_number(out: &mut [u8], at: usize, kind: u64, number: u64) -> usize
+    requires { ⌜ at + length (numberHead (styleOf kind) (kind % 256) number) ≤ length (now out) ⌝ }
+    ensures { λ r. ⌜ Put (numberHead (styleOf kind) (kind % 256) number) (now (out .entry)) at (now (out .exit)) r ⌝ }
+{
+    match kind {
+        0x40 => put_coded(out, at, format_code::NULL, 0, number),
+        0x50 => put_coded(out, at, format_code::UBYTE, 1, number),
+        0x51 => put_coded(out, at, format_code::BYTE, 1, number),
+        0x56 => put_flag(out, at, format_code::TRUE, format_code::FALSE, number),
+        0x60 => put_coded(out, at, format_code::USHORT, 2, number),
+        0x61 => put_coded(out, at, format_code::SHORT, 2, number),
+        0x70 => put_unsigned(
+            out,
+            at,
+            format_code::UINT_0,
+            format_code::SMALL_UINT,
+            format_code::UINT,
+            4,
+            number,
+        ),
+        0x71 => put_signed(out, at, format_code::SMALL_INT, format_code::INT, 4, number),
+        0x72 => put_coded(out, at, format_code::FLOAT, 4, number),
+        0x73 => put_coded(out, at, format_code::CHAR, 4, number),
+        0x74 => put_coded(out, at, format_code::DECIMAL_32, 4, number),
+        0x80 => put_unsigned(
+            out,
+            at,
+            format_code::ULONG_0,
+            format_code::SMALL_ULONG,
+            format_code::ULONG,
+            8,
+            number,
+        ),
+        0x81 => put_signed(
+            out,
+            at,
+            format_code::SMALL_LONG,
+            format_code::LONG,
+            8,
+            number,
+        ),
+        0x82 => put_coded(out, at, format_code::DOUBLE, 8, number),
+        0x83 => put_coded(out, at, format_code::TIMESTAMP, 8, number),
+        0x84 => put_coded(out, at, format_code::DECIMAL_64, 8, number),
+        _ => 0,
     }
 }

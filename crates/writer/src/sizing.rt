@@ -1,20 +1,28 @@
 // Sizing: the checks of all rows and the bytes that they will be written to (docs/FORMAT.md, 6.1).
 ghost use mathlib.Core.Path.{_≡_};
-ghost use Prim.Native.Nat.{_+_, _*_, _^_, _≤_, _<_};
-ghost use lib.ListN.{length};
+ghost use Prim.Native.Nat.{ℕ, _+_, _*_, _^_, _≤_, _<_};
+ghost use mathlib.Core.Bool.{_&&_};
+ghost use lib.Dec.{eqb, leb, ltb};
+ghost use lib.ListN.{length, drop};
 ghost use lib.Seq.{sets};
+ghost use Rattle.standard.specs.Choose.{if};
 ghost use Rattle.standard.specs.Bytes.{be};
 ghost use Rattle.standard.specs.Kinds.{styleOf};
-ghost use Rattle.standard.specs.Table.{firstIn, next};
+ghost use Rattle.standard.specs.Answer.{got};
+ghost use Rattle.standard.specs.Table.{most, any, first, next};
 ghost use Rattle.standard.specs.InCode.{styleIs};
+ghost use Rattle.standard.specs.Encode.{shortEnd};
 ghost use Rattle.writer.specs.InCode.{spotIs};
-ghost use Rattle.writer.specs.Sizing.{headSize, codeWidth, values, total, Marked, Sure};
+ghost use Rattle.writer.specs.Rows.{check};
+ghost use Rattle.writer.specs.Sizing.{opens, takenOf, other, codeWidth, values, totalFrom, Marked, Within, start, past, Rowed};
 use crate::filling;
 use crate::head;
+use crate::number;
 use crate::put;
 use crate::row;
 use crate::row::Checked;
 use crate::row::IsArrayElement;
+use standard::kind;
 use standard::kind::Style;
 use standard::refusal::Refusal;
 
@@ -26,27 +34,93 @@ pub struct Extent {
     pub mark: usize,
 }
 
+impl Extent {
+    // At the first row of a table.
+    pub fn new(mark: usize) -> Self
+        ensures { λ r. ⌜ r ≡ start mark ⌝ }
+    {
+        Self {
+            row: 0,
+            text: 0,
+            size: 0,
+            mark,
+        }
+    }
+
+    // Behind a row without children that has so many bytes of text and takes so many bytes.
+    fn past(self, letters: usize, size: usize) -> Self
+        requires { ⌜ (self .row + 1 < 2 ^ 64) × (self .text + letters < 2 ^ 64) × (self .size + size < 2 ^ 64) ⌝ }
+        ensures { λ r. ⌜ r ≡ past self letters size ⌝ }
+    {
+        Self {
+            row: self.row + 1,
+            text: self.text + letters,
+            size: self.size + size,
+            mark: self.mark,
+        }
+    }
+}
+
 pub enum Sized {
     Fits(Extent),
     Refused(Refusal),
 }
 
-// Where the first child of a row stands, and where the row behind another one does.
-fn first_in(style: Style, number: u64) -> IsArrayElement
-    ensures { λ r. ⌜ spotIs r ≡ firstIn (styleIs style) number ⌝ }
+// What a row is, as far as sizing goes on without further checks.
+pub enum Taken {
+    // A number that takes so many bytes.
+    Number(usize),
+    // A list, a map or a described value, by its kind, with so many children.
+    Open(u64, usize),
+    // Anything else: a row with text, an array, an empty compound, a bad row, or none.
+    Other,
+}
+
+// Does a row hold values with codes of their own, and some of them.
+fn is_open(kind: u64, number: u64) -> bool
+    ensures { λ r. ⌜ r ≡ opens (styleOf kind) kind number ⌝ }
 {
-    match style {
-        Style::Foreign => IsArrayElement::False,
-        Style::Numbered(_, _) => IsArrayElement::False,
-        Style::Blob(_) => IsArrayElement::False,
-        Style::Lettered(_) => IsArrayElement::False,
-        Style::Listed(_, _) => IsArrayElement::False,
-        Style::Mapped(_) => IsArrayElement::False,
-        Style::Arrayed(_) => IsArrayElement::FirstElement,
-        Style::Describing => IsArrayElement::False,
+    if number == 0 {
+        return false;
+    }
+    match kind {
+        0x00 => number == 2,
+        0xd0 => number <= kind::MOST,
+        0xd1 => {
+            if number % 2 == 0 {
+                return number <= kind::MOST;
+            }
+            false
+        }
+        _ => false,
     }
 }
 
+// The row at `row`, where so many levels are left.
+fn take_row(words: &[u64], row: usize, levels: usize) -> Taken
+    requires { ⌜ 2 * row ≤ length (now words) ⌝ }
+    ensures { λ r. ⌜ r ≡ takenOf levels (drop (2 * row) (now (words .entry))) ⌝ }
+{
+    let k = 2 * row;
+    if levels == 0 {
+        return Taken::Other;
+    }
+    if words.len() - k < 2 {
+        return Taken::Other;
+    }
+    let kind = words[k];
+    let number = words[k + 1];
+    if is_open(kind, number) {
+        return Taken::Open(kind, number as usize);
+    }
+    let size = number::size_number(kind, number);
+    if size == 0 {
+        return Taken::Other;
+    }
+    Taken::Number(size)
+}
+
+// The spot of the row behind another one.
 fn next_spot(spot: IsArrayElement, kind: u64) -> IsArrayElement
     ensures { λ r. ⌜ spotIs r ≡ next (spotIs spot) kind ⌝ }
 {
@@ -54,21 +128,6 @@ fn next_spot(spot: IsArrayElement, kind: u64) -> IsArrayElement
         IsArrayElement::False => IsArrayElement::False,
         IsArrayElement::FirstElement => IsArrayElement::OtherElement(kind),
         IsArrayElement::OtherElement(first) => IsArrayElement::OtherElement(first),
-    }
-}
-
-// The bytes before a row's text.
-fn head_size(spot: IsArrayElement, style: Style, kind: u64, number: u64, body: usize) -> usize
-    requires { ⌜ (body + 4 < 2 ^ 64) × (styleIs style ≡ styleOf kind) ⌝ }
-    ensures { λ r. ⌜ r ≡ headSize (spotIs spot) (styleOf kind) kind number body ⌝ }
-{
-    match spot {
-        IsArrayElement::False => {
-            let h = head::head_of(style, kind, number, body);
-            1 + h.width + h.count_width
-        }
-        IsArrayElement::FirstElement => head::item_width(style),
-        IsArrayElement::OtherElement(_) => head::item_width(style),
     }
 }
 
@@ -106,30 +165,13 @@ fn put_mark(marks: &mut [u8], at: usize, width: usize, body: usize)
     }
 }
 
-// So many values, the first at `row` with its text at `from` and its mark at `mark`, where so many levels are left.
-// A row without children needs no call.
-pub(crate) fn size_values(
-    words: &[u64],
-    text: &[u8],
-    row: usize,
-    from: usize,
-    count: usize,
-    levels: usize,
-    spot: IsArrayElement,
-    marks: &mut [u8],
-    mark: usize,
-) -> Sized
-    requires { ⌜ (2 * row ≤ length (now words)) × (from ≤ length (now text)) × (mark ≤ 2 ^ 62 + 3 * row) × Sure (spotIs spot) ⌝ }
-    ensures { λ r. ⌜ (r ≡ total (spotIs spot) row from 0 mark (values (now (words .entry)) (now (text .entry)) levels (spotIs spot) count row from))
-        × Marked (now (marks .entry)) mark (now (marks .exit)) (values (now (words .entry)) (now (text .entry)) levels (spotIs spot) count row from) ⌝ }
+// So many elements of an array, the first of them at `start`.
+fn size_items(words: &[u64], text: &[u8], count: usize, levels: usize, start: Extent) -> Sized
+    requires { ⌜ Within (now words) (now text) start ⌝ }
+    ensures { λ r. ⌜ r ≡ totalFrom first start (values (now (words .entry)) (now (text .entry)) levels first count (start .row) (start .text)) ⌝ }
 {
-    let mut c = Extent {
-        row,
-        text: from,
-        size: 0,
-        mark,
-    };
-    let mut place = spot;
+    let mut c = start;
+    let mut place = IsArrayElement::FirstElement;
     let mut left = count;
     while 0 < left {
         match row::check_row(words, text, c.row, c.text, levels, place) {
@@ -141,42 +183,143 @@ pub(crate) fn size_values(
             }
             Checked::Good(style, kind, number) => {
                 let letters = style.letters(number) as usize;
-                let children = style.children(number) as usize;
-                let width = filling::mark_width(style, number);
-                let next = Extent {
+                c = c.past(letters, head::item_width(style) + letters);
+                place = next_spot(place, kind);
+                left -= 1;
+            }
+        }
+    }
+    Sized::Fits(c)
+}
+
+// A good row that is not open, with the elements of an array.
+fn size_good(
+    words: &[u64],
+    text: &[u8],
+    levels: usize,
+    marks: &mut [u8],
+    c: Extent,
+    style: Style,
+    kind: u64,
+    number: u64,
+) -> Sized
+    requires { ⌜ Within (now words) (now text) c × (styleIs style ≡ styleOf kind) × (takenOf levels (drop (2 * (c .row)) (now words)) ≡ other)
+        × (check levels any (c .row) (drop (2 * (c .row)) (now words)) (drop (c .text) (now text)) ≡ got (kind, number)) ⌝ }
+    ensures { λ r. ⌜ Rowed (now (words .entry)) (now (text .entry)) levels c (now (marks .entry)) (now (marks .exit)) r ⌝ }
+{
+    let letters = style.letters(number) as usize;
+    let items = filling::elements_of(style, number) as usize;
+    let width = filling::mark_width(style, number);
+    let next = Extent {
+        row: c.row + 1,
+        text: c.text + letters,
+        size: 0,
+        mark: c.mark + width,
+    };
+    let below = size_items(words, text, items, levels - 1, next);
+    let Sized::Fits(e) = below else {
+        return below;
+    };
+    let body = code_width(style, number) + e.size;
+    put_mark(marks, c.mark, width, body);
+    let size = head::head_width(style, kind, number, body) + letters + body;
+    Sized::Fits(Extent {
+        row: e.row,
+        text: e.text,
+        size: c.size + size,
+        mark: e.mark,
+    })
+}
+
+// The row at `c`, whatever it is but an open one.
+fn size_row(words: &[u64], text: &[u8], levels: usize, marks: &mut [u8], c: Extent) -> Sized
+    requires { ⌜ Within (now words) (now text) c × (takenOf levels (drop (2 * (c .row)) (now words)) ≡ other) ⌝ }
+    ensures { λ r. ⌜ Rowed (now (words .entry)) (now (text .entry)) levels c (now (marks .entry)) (now (marks .exit)) r ⌝ }
+{
+    match row::check_row(words, text, c.row, c.text, levels, IsArrayElement::False) {
+        Checked::Bad(number) => Sized::Refused(Refusal {
+            number,
+            place: c.row,
+        }),
+        Checked::Good(style, kind, number) => size_good(
+            words,
+            text,
+            levels,
+            marks,
+            c,
+            style,
+            kind,
+            number,
+        ),
+    }
+}
+
+// The width of the mark of an open row, and the bytes before its body.
+fn open_mark(kind: u64) -> usize
+    ensures { λ r. ⌜ r ≡ if (eqb kind 0) 0 3 ⌝ }
+{
+    if kind == 0x00 {
+        return 0;
+    }
+    3
+}
+
+fn open_head(kind: u64, body: usize) -> usize
+    ensures { λ r. ⌜ r ≡ if (eqb kind 0) 1 (if (ltb body shortEnd) 3 9) ⌝ }
+{
+    if kind == 0x00 {
+        return 1;
+    }
+    head::compound_width(body)
+}
+
+// So many values, the first of them at `start`, where so many levels are left. Only rows with children need a call.
+pub(crate) fn size_values(
+    words: &[u64],
+    text: &[u8],
+    count: usize,
+    levels: usize,
+    marks: &mut [u8],
+    start: Extent,
+) -> Sized
+    requires { ⌜ Within (now words) (now text) start ⌝ }
+    ensures { λ r. ⌜ (r ≡ totalFrom any start (values (now (words .entry)) (now (text .entry)) levels any count (start .row) (start .text)))
+        × Marked (now (marks .entry)) (start .mark) (now (marks .exit)) (values (now (words .entry)) (now (text .entry)) levels any count (start .row) (start .text)) ⌝ }
+{
+    let mut c = start;
+    let mut left = count;
+    while 0 < left {
+        left -= 1;
+        match take_row(words, c.row, levels) {
+            Taken::Number(size) => {
+                c = c.past(0, size);
+            }
+            Taken::Open(kind, children) => {
+                let width = open_mark(kind);
+                let first = Extent {
                     row: c.row + 1,
-                    text: c.text + letters,
+                    text: c.text,
                     size: 0,
                     mark: c.mark + width,
                 };
-                let mut below = Sized::Fits(next);
-                if 0 < children {
-                    below = size_values(
-                        words,
-                        text,
-                        next.row,
-                        next.text,
-                        children,
-                        levels - 1,
-                        first_in(style, number),
-                        marks,
-                        next.mark,
-                    );
-                }
+                let below = size_values(words, text, children, levels - 1, marks, first);
                 let Sized::Fits(e) = below else {
                     return below;
                 };
-                let body = code_width(style, number) + e.size;
-                put_mark(marks, c.mark, width, body);
-                let size = head_size(place, style, kind, number, body) + letters + body;
+                put_mark(marks, c.mark, width, e.size);
                 c = Extent {
                     row: e.row,
                     text: e.text,
-                    size: c.size + size,
+                    size: c.size + (open_head(kind, e.size) + e.size),
                     mark: e.mark,
                 };
-                place = next_spot(place, kind);
-                left -= 1;
+            }
+            Taken::Other => {
+                let one = size_row(words, text, levels, marks, c);
+                let Sized::Fits(e) = one else {
+                    return one;
+                };
+                c = e;
             }
         }
     }

@@ -3,6 +3,7 @@ use borrow.Author.Needs.{needs}
 use mathlib.Core.Path.{sym, _∙_}
 use native.Mathlib.Omega.{arith}
 use Rattle.standard.specs.Outcomes.{levelMost}
+use Rattle.writer.proofs.Turns.{at-start}
 use Rattle.writer.proofs.Whole.{odd-no, value-no, rows-left, text-left, too-long, fitting, row-inside}
 use Rattle.writer.proofs.size_table.Statement.{statement}
 use Rattle.writer.proofs.size_table.Tie as tie
@@ -14,19 +15,20 @@ size-table-spec =
     (λ c κs. search needs)
     (λ c. rw (c .refuse .ensures) (odd-no levelMost _ _ (c .before .if1 .taken)))
     (λ c κs. search needs)
+    (λ c κs. rw (c .new .ensures) (at-start _ _ _ (omega arith)))
     (λ c. search needs)
     (λ c. search needs)
     (λ c. search needs)
-    (λ c. rw (c .enum-told .given .1) (value-no levelMost _ _ (c .before .before .before .before .before .before .if1 .left) _ (sym (c .enum-told .given .1) ∙ c .before .before .before .before .size-values .ensures .0)))
-    (λ c. omega (arith, row-inside levelMost (c .before .before .before .before .before .before .before .before .before .before .before .before .args .words .now) (c .before .before .before .before .before .before .before .before .before .before .before .before .args .text .now) (c .before .before .all .given .0 .0) (sym (c .before .before .all .given .1) ∙ c .before .before .before .before .before .before .size-values .ensures .0)))
+    (λ c. rw (c .enum-told .given .1) (value-no levelMost _ _ (c .before .before .before .before .before .before .before .if1 .left) _ (sym (c .enum-told .given .1) ∙ (rw (c .before .before .before .before .before .new .ensures) at (c .before .before .before .before .size-values .ensures .0)))))
+    (λ c. omega (arith, row-inside levelMost (c .before .before .before .before .before .before .before .before .before .before .before .before .before .args .words .now) (c .before .before .before .before .before .before .before .before .before .before .before .before .before .args .text .now) (c .before .before .all .given .0 .0) (sym (c .before .before .all .given .1) ∙ (rw (c .before .before .before .before .before .before .before .new .ensures) at (c .before .before .before .before .before .before .size-values .ensures .0)))))
     (λ c κs. search needs)
     (λ c. search needs)
-    (λ c. rw (c .refuse2 .ensures) (rows-left levelMost _ _ (c .before .before .before .before .before .before .before .before .before .before .if1 .left) (c .before .before .before .before .all .given .0 .0) (sym (c .before .before .before .before .all .given .1) ∙ c .before .before .before .before .before .before .before .before .size-values .ensures .0) (c .before .if2 .taken)))
+    (λ c. rw (c .refuse2 .ensures) (rows-left levelMost _ _ (c .before .before .before .before .before .before .before .before .before .before .before .if1 .left) (c .before .before .before .before .all .given .0 .0) (sym (c .before .before .before .before .all .given .1) ∙ (rw (c .before .before .before .before .before .before .before .before .before .new .ensures) at (c .before .before .before .before .before .before .before .before .size-values .ensures .0))) (c .before .if2 .taken)))
     (λ c κs. search needs)
     (λ c. search needs)
-    (λ c. rw (c .refuse3 .ensures) (text-left levelMost _ _ (c .before .before .before .before .before .before .before .before .before .before .before .before .if1 .left) (c .before .before .before .before .before .before .all .given .0 .0) (sym (c .before .before .before .before .before .before .all .given .1) ∙ c .before .before .before .before .before .before .before .before .before .before .size-values .ensures .0) (c .before .before .before .if2 .left) (c .before .if3 .taken)))
+    (λ c. rw (c .refuse3 .ensures) (text-left levelMost _ _ (c .before .before .before .before .before .before .before .before .before .before .before .before .before .if1 .left) (c .before .before .before .before .before .before .all .given .0 .0) (sym (c .before .before .before .before .before .before .all .given .1) ∙ (rw (c .before .before .before .before .before .before .before .before .before .before .before .new .ensures) at (c .before .before .before .before .before .before .before .before .before .before .size-values .ensures .0))) (c .before .before .before .if2 .left) (c .before .if3 .taken)))
     (λ c κs. search needs)
     (λ c. search needs)
-    (λ c. rw (c .refuse4 .ensures) (too-long levelMost _ _ (c .before .before .before .before .before .before .before .before .before .before .before .before .before .before .if1 .left) (c .before .before .before .before .before .before .before .before .all .given .0 .0) (sym (c .before .before .before .before .before .before .before .before .all .given .1) ∙ c .before .before .before .before .before .before .before .before .before .before .before .before .size-values .ensures .0) (c .before .before .before .before .before .if2 .left) (c .before .before .before .if3 .left) (c .before .if4 .taken)))
+    (λ c. rw (c .refuse4 .ensures) (too-long levelMost _ _ (c .before .before .before .before .before .before .before .before .before .before .before .before .before .before .before .if1 .left) (c .before .before .before .before .before .before .before .before .all .given .0 .0) (sym (c .before .before .before .before .before .before .before .before .all .given .1) ∙ (rw (c .before .before .before .before .before .before .before .before .before .before .before .before .before .new .ensures) at (c .before .before .before .before .before .before .before .before .before .before .before .before .size-values .ensures .0))) (c .before .before .before .before .before .if2 .left) (c .before .before .before .if3 .left) (c .before .if4 .taken)))
     (λ c. search needs)
-    (λ c. fitting _ _ (c .before .before .before .before .before .before .before .before .before .before .before .before .before .if1 .left) (c .before .before .before .before .before .before .before .all .given .0 .0) (sym (c .before .before .before .before .before .before .before .all .given .1) ∙ c .before .before .before .before .before .before .before .before .before .before .before .size-values .ensures .0) (c .before .before .before .before .if2 .left) (c .before .before .if3 .left) (c .if4 .left) _ _ (c .before .before .before .before .before .before .before .before .before .before .before .size-values .ensures .1)))
+    (λ c. fitting _ _ (c .before .before .before .before .before .before .before .before .before .before .before .before .before .before .if1 .left) (c .before .before .before .before .before .before .before .all .given .0 .0) (sym (c .before .before .before .before .before .before .before .all .given .1) ∙ (rw (c .before .before .before .before .before .before .before .before .before .before .before .before .new .ensures) at (c .before .before .before .before .before .before .before .before .before .before .before .size-values .ensures .0))) (c .before .before .before .before .if2 .left) (c .before .before .if3 .left) (c .if4 .left) _ _ (rw (c .before .before .before .before .before .before .before .before .before .before .before .before .new .ensures) at (c .before .before .before .before .before .before .before .before .before .before .before .size-values .ensures .1))))

@@ -14,11 +14,11 @@ put-code-spec =
     tie.close
     (tie.spec
     (λ c. search needs)
-    (λ c. rw (c .if1 .taken) (refl, refl))
-    (λ c. rw (no-row (c .before .before .args .elements) (2 * (c .before .before .args .row)) (c .before .before .args .words .now) (c .if2 .taken)) (refl, refl))
+    (λ c. rw (c .if1 .taken) (record { size = refl; stored = refl }))
+    (λ c. rw (no-row (c .before .before .args .elements) (2 * (c .before .before .args .row)) (c .before .before .args .words .now) (c .if2 .taken)) (record { size = refl; stored = refl }))
     (λ c. search needs)
     (λ c. search needs)
     (λ c. search needs)
     (λ c. omega (arith, rw (next-row (c .before .before .before .args .elements) (2 * (c .before .before .before .args .row)) (c .before .before .before .args .words .now) (c .before .before .if1 .left) (c .before .if2 .left)) at (c .before .before .before .pre .1)))
     (λ c. search needs)
-    (λ c. rw (next-row (c .before .before .before .args .elements) (2 * (c .before .before .before .args .row)) (c .before .before .before .args .words .now) (c .before .before .if1 .left) (c .before .if2 .left)) (refl, refl)))
+    (λ c. rw (next-row (c .before .before .before .args .elements) (2 * (c .before .before .before .args .row)) (c .before .before .before .args .words .now) (c .before .before .if1 .left) (c .before .if2 .left)) (record { size = refl; stored = refl })))

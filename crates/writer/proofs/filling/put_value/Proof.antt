@@ -1,31 +1,27 @@
--- `put_value` writes a row's head, its text and the code of its elements, one behind the other, which are the row's bytes.
+-- `put_value` tries one way after another: where one has nothing to write, the output is as it was, and the next is tried.
 use borrow.Author.Needs.{needs}
-use Prim.Native.Nat.{_+_}
-use mathlib.Core.Path.{refl}
+use Prim.Native.Nat.{_+_, _^_, _≤_, _<_}
+use mathlib.Core.Path.{_≡_, refl, ap, _∙_}
+use mathlib.Core.List.{[], _∷_}
 use native.Mathlib.Omega.{arith}
-use Rattle.standard.specs.InCode.{styleIs}
-use Rattle.writer.specs.Heads.{headIs}
-use Rattle.writer.proofs.Stores.{length-head}
-use Rattle.writer.proofs.Rows.{Row, mark-room, value-row, stepped}
+use lib.ListN.{length, length-set}
+use Rattle.writer.proofs.Rows.{mark-room}
+use Rattle.writer.proofs.Direct.{number-head, compound-head, described-head, unput, front-fits, front-behind, front-stepped}
 use Rattle.writer.proofs.filling.put_value.Statement.{statement}
 use Rattle.writer.proofs.filling.put_value.Tie as tie
 
--- the row, once its head is known
-here : (c : tie.After-head-of) →
-    let a = c .before .before .before .before .before .before .before .before .before .before .before .before .before .args in
-    let h = c .head-of .result in
-    let e = c .before .before .before .elements-of .result in
-    Row (a .words .now) (a .text .now) (a .out .now) (a .n) (a .c) (headIs h) (1 + h .width + h .«count_width») (c .before .before .before .before .before .letters .result) e (c .before .before .before .before .mark-width .result) e
-here c =
-    let s = c .before .before .before .before .before .before .before .before .before .before .before .before .before in
-    let a = s .args in
-    let h = c .head-of .result in
-    let y = c .before .before .before .before .before .before .style-of in
-    let l = c .before .before .before .before .before .letters in
-    let w = c .before .before .before .before .mark-width in
-    let e = c .before .before .before .elements-of in
-    let m = c .before .mark-at in
-    value-row (a .words .now) (a .text .now) (a .out .now) (a .n) (a .c) (s .pre .1) (s .good .1 .0 .0, s .good .1 .1 .0 .0) (styleIs (y .result)) (y .ensures) (l .result) (l .ensures) (w .result) (s .pre .0) (e .result) (m .result) (1 + h .width + h .«count_width») (headIs h) (w .ensures) (e .ensures) (m .ensures .0) (c .head-of .ensures) (length-head h)
+small : (s : tie.Start) → (length (s .args .text .now) < 2 ^ 64) × (length (s .args .out .now) < 2 ^ 64)
+small s = (s .good .1 .0 .0, s .good .1 .1 .0 .0)
+
+-- the output behind a number that is none, and behind a compound that is none
+no-number : (c : tie.Else1) → c .before .before .before .put-number .last .0 ≡ c .before .before .before .before .before .before .before .before .before .before .before .args .out .now
+no-number c = unput _ _ _ _ _ (c .before .before .before .put-number .ensures) (c .if1 .left)
+
+no-compound : (c : tie.Else2) → c .before .before .before .put-compound .last .0 ≡ c .before .before .before .before .before .before .before .before .before .before .before .before .before .before .before .before .args .out .now
+no-compound c = unput _ _ _ _ _ (c .before .before .before .put-compound .ensures) (c .if2 .left) ∙ no-number (c .before .before .before .before .before)
+
+code-fits : (c : tie.Then3) → c .before .before .before .before .before .before .before .before .before .before .before .before .before .before .before .before .before .args .c .at + 1 ≤ length (c .before .before .before .before .put-compound .last .0)
+code-fits c = let s = c .before .before .before .before .before .before .before .before .before .before .before .before .before .before .before .before .before in front-fits _ _ _ _ _ (s .pre .1) (s .pre .0) (small s) _ (no-compound (c .before)) (0 ∷ []) 0 (described-head _ _ _ (c .if3 .taken))
 
 pub put-value-spec : {M : Type 1} → statement M
 put-value-spec =
@@ -37,22 +33,33 @@ put-value-spec =
     (λ c. search needs)
     (λ c. search needs)
     (λ c. search needs)
-    (λ c κs. search needs)
-    (λ c κs. search needs)
-    (λ c κs. search needs)
-    (λ c κs. search needs)
-    (λ c κs. mark-room _ _ _ _ _ (c .before .before .before .before .before .before .before .before .before .before .before .pre .1) (c .before .before .before .before .before .before .before .before .before .before .before .pre .0) _ (c .before .before .before .before .style-of .ensures) _ (c .before .before .mark-width .ensures))
-    (λ c κs. search needs)
+    (λ c κs. let s = c .before .before .before .before .before .before .before in front-fits _ _ _ _ _ (s .pre .1) (s .pre .0) (small s) _ refl _ 0 (number-head _ _ _ _))
+    (λ c κs.
+    let s = c .before .before .before .before .before .before .before .before .before .before .before in
+    front-behind _ _ _ _ _ (s .pre .1) (s .pre .0) (small s) _ refl _ 0 (number-head _ _ _ _) _ _ (c .before .before .before .put-number .ensures) (c .if1 .taken) (s .good .0 .0))
+    (λ c. c .before .before .before .before .put-number .kept .0)
+    (λ c.
+    let s = c .before .before .before .before .before .before .before .before .before .before .before .before in
+    front-stepped _ _ _ _ _ (s .pre .1) (s .pre .0) (small s) _ refl _ 0 (number-head _ _ _ _) _ _ (c .before .before .before .before .put-number .ensures) (c .before .if1 .taken) _ (c .behind .ensures))
+    (λ c κs.
+    let s = c .before .before .before .before .before .before .before .before .before .before .before .before in
+    let e = no-number (c .before) in
+    (rw e (mark-room _ _ _ _ _ (s .pre .1) (s .pre .0) _ refl _ refl .0), front-fits _ _ _ _ _ (s .pre .1) (s .pre .0) (small s) _ e _ 3 (compound-head _ _ _ _)))
+    (λ c κs.
+    let s = c .before .before .before .before .before .before .before .before .before .before .before .before .before .before .before .before in
+    front-behind _ _ _ _ _ (s .pre .1) (s .pre .0) (small s) _ (no-number (c .before .before .before .before .before)) _ 3 (compound-head _ _ _ _) _ _ (c .before .before .before .put-compound .ensures) (c .if2 .taken) (s .good .0 .0))
     (λ c. search needs)
-    (λ c κs. omega (arith, here (c .before .before)))
-    (λ c. omega (arith, here (c .before .before .before .before .before)))
-    (λ c. omega (arith, here (c .before .before .before .before .before .before)))
-    (λ c. omega (arith, here (c .before .before .before .before .before .before .before)))
-    (λ c κs. omega (arith, here (c .before .before .before .before .before .before .before .before), c .before .before .before .before .before .put-head .kept .0))
-    (λ c. omega (arith, here (c .before .before .before .before .before .before .before .before .before .before .before)))
-    (λ c κs. omega (arith, here (c .before .before .before .before .before .before .before .before .before .before .before .before), c .before .before .before .before .before .before .before .before .before .put-head .kept .0, c .before .before .before .put-text .kept .0))
-    (λ c. omega (arith, here (c .before .before .before .before .before .before .before .before .before .before .before .before .before .before .before)))
-    (λ c. omega (arith, here (c .before .before .before .before .before .before .before .before .before .before .before .before .before .before .before), c .before .before .put-code .ensures .0))
-    (λ c. omega (arith, here (c .before .before .before .before .before .before .before .before .before .before .before .before .before .before .before)))
+    (λ c.
+    let s = c .before .before .before .before .before .before .before .before .before .before .before .before .before .before .before .before .before in
+    front-stepped _ _ _ _ _ (s .pre .1) (s .pre .0) (small s) _ (no-number (c .before .before .before .before .before .before)) _ 3 (compound-head _ _ _ _) _ _ (c .before .before .before .before .put-compound .ensures) (c .before .if2 .taken) _ (c .behind2 .ensures))
+    (λ c. omega (arith, code-fits c))
+    (λ c κs.
+    let s = c .before .before .before .before .before .before .before .before .before .before .before .before .before .before .before .before .before in
+    front-behind _ _ _ _ _ (s .pre .1) (s .pre .0) (small s) _ (no-compound (c .before)) _ 0 (described-head _ _ _ (c .if3 .taken)) _ 1 (record { size = refl; stored = refl }) (omega arith) (s .good .0 .0))
+    (λ c. simp length-set (ap length (no-compound (c .before .before))))
+    (λ c.
+    let s = c .before .before .before .before .before .before .before .before .before .before .before .before .before .before .before .before .before .before in
+    front-stepped _ _ _ _ _ (s .pre .1) (s .pre .0) (small s) _ (no-compound (c .before .before)) _ 0 (described-head _ _ _ (c .before .if3 .taken)) _ 1 (record { size = refl; stored = refl }) (omega arith) _ (c .behind3 .ensures))
+    (λ c κs. let s = c .before .before .before .before .before .before .before .before .before .before .before .before .before .before .before .before .before .before in (s .pre .0, rw (no-compound (c .before .before)) (s .pre .1)))
     (λ c. search needs)
-    (λ c. stepped _ _ _ _ _ _ _ _ _ _ _ (here (c .before .before .before .before .before .before .before .before .before .before .before .before .before .before .before)) (c .before .before .before .before .before .before .before .before .before .before .before .before .put-head .last .0) (c .before .before .before .before .before .before .put-text .last .0) (c .before .before .put-code .last .1 .1 .1 .0) _ _ (c .before .before .before .before .before .before .before .before .before .before .before .before .put-head .ensures) (c .before .before .before .before .before .before .put-text .ensures) (c .before .before .put-code .ensures .1) (omega arith) refl refl (omega (arith, c .before .before .put-code .ensures .0)) refl refl))
+    (λ c. rw (no-compound (c .before .before .before .before .before)) at (c .before .before .put-styled .ensures)))

@@ -1,0 +1,526 @@
+-- The turns of sizing by what the row in front is: a number, an open row, or another one.
+use Prim.Native.Nat.{ℕ, zero, suc, _+_, _*_, _-_, _%_, _^_, _≤_, _<_}
+use mathlib.Core.Path.{_≡_, refl, sym, ap, _∙_, subst}
+use mathlib.Core.List.{List, [], _∷_, _++_}
+use mathlib.Core.Bool.{Bool, true, false, not, _&&_}
+use native.Mathlib.Omega.{arith}
+use borrow.Author.Tests.{lt-ltb, ne-eqb}
+use lib.Dec.{T, eqb, eqb→eq, leb, leb→le, ltb, ltb→lt}
+use lib.ListN.{length, take, drop, length-append, length-drop}
+use lib.Seq.{sets}
+use Rattle.standard.specs.Choose.{if}
+use Rattle.standard.specs.Answer.{Answer, got, refuse, at}
+use Rattle.standard.specs.Bytes.{be}
+use Rattle.standard.specs.Text.{flawless, isFlawless, utf8, ascii, faultDue, faultIn}
+use Rattle.standard.specs.Tree.{node, Trees, none, more, root}
+use Rattle.standard.specs.Kinds.{Style, foreign, numbered, blob, lettered, listed, mapped, arrayed, describing, kinds, styleOf, isKind, plain, flaw, clean}
+use Rattle.standard.specs.Table.{Spot, any, first, like, allowed, ranged, letters, children, firstIn, next, All, Valid, several, tree}
+use Rattle.standard.specs.Encode.{shortEnd, payloads}
+use Rattle.standard.specs.Laws.Numbers.{length-be}
+use Rattle.standard.specs.Laws.Answers.{if-case, T-true, and-left, and-right}
+use Rattle.writer.specs.Heads.{enclosure, head, itemWidth}
+use Rattle.writer.specs.Marks.{markWidth, marks, marks*}
+use Rattle.writer.specs.Filling.{elementsOf}
+use Rattle.writer.specs.Rows.{check}
+use Rattle.writer.specs.Sizing.{total, totalFrom, Marked, headSize, codeWidth, values, sizeIn, Sure, holder, opens, numberSize, alone, takenOf, start, past, Within, Comes, Rowed}
+use Rattle.standard.specs.declared.refusal.Refusal.{Refusal}
+use Rattle.writer.specs.declared.sizing.Sized.{Sized}
+use Rattle.writer.specs.declared.sizing.Sized.the-variants.{Fits, Refused}
+use Rattle.writer.specs.declared.sizing.Taken.{Taken}
+use Rattle.writer.specs.declared.sizing.Taken.the-variants.{Number, Open, Other}
+use Rattle.writer.specs.declared.sizing.Extent.{Extent}
+use Rattle.standard.specs.Laws.Written.{no-children}
+use Rattle.writer.proofs.Sizes.{allKinds, found-kind}
+use Rattle.writer.proofs.Checks.{check-good}
+use Rattle.writer.proofs.Flat.{plain-leaf}
+use Rattle.writer.proofs.Sums.{mark-small, below, Entered, entered-none, entered-some, sure-next, turn-within, turn-comes, turn-sure, turn-no, comes-on, taken, stands, check-allowed, check-ranged, check-front}
+
+-- no text is clean
+no-fault : (k : ℕ) → clean k [] ≡ true
+unfolding flaw faultDue
+no-fault k =
+    if-case (λ f. isFlawless f ≡ true) (eqb k 0xb1) (faultIn utf8 []) (if (eqb k 0xb3) (faultIn ascii []) flawless) (λ t. refl)
+    (λ t. if-case (λ f. isFlawless f ≡ true) (eqb k 0xb3) (faultIn ascii []) flawless (λ y. refl) (λ y. refl))
+
+-- Rows without text
+
+record Bare (s : Style) (k n : ℕ) : Type 0 where
+  pub known : isKind s ≡ true
+  pub inRange : ranged s k n ≡ true
+  pub silent : letters s n ≡ 0
+  pub uncoded : codeWidth s n ≡ 0
+
+-- a row in front of words, where a level is left
+record Front (l : ℕ) (w : List ℕ) (k n : ℕ) : Type 0 where
+  pub level : 0 < l
+  pub words : w ≡ k ∷ n ∷ drop 2 w
+
+bare-check : (l i k n : ℕ) (w x : List ℕ) → Front l w k n → Bare (styleOf k) k n → check l any i w x ≡ got (k, n)
+unfolding allowed
+bare-check l i k n w x f g = rw (f .words) (check-good any i k n (drop 2 w) x (g .known) refl (g .inRange) l (f .level) (rw (g .silent) (omega arith)) (rw (g .silent) (no-fault k)))
+
+-- A number
+
+record NumberRow (s : Style) (k n z : ℕ) : Type 0 where
+  pub bare : Bare s k n
+  pub barren : children s n ≡ 0
+  pub unmarked : markWidth s n ≡ 0
+  pub sized : (b : ℕ) → length (head s (k % 256) n b) ≡ z
+
+number-row : (s : Style) (k n z : ℕ) → numberSize s k n ≡ z → 0 < z → NumberRow s k n z
+unfolding numberSize isKind letters children markWidth codeWidth head
+number-row foreign k n z e h = absurd (omega arith)
+number-row (numbered s w) k n z e h = go (ranged (numbered s w) k n) refl
+  where
+    go : (r : Bool) → ranged (numbered s w) k n ≡ r → NumberRow (numbered s w) k n z
+    go true f = record { bare = record { known = refl; inRange = f; silent = refl; uncoded = refl }; barren = refl; unmarked = refl; sized = λ b. rw f at e }
+    go false f = let y : 0 ≡ z = rw f at e in absurd (omega arith)
+number-row (blob w) k n z e h = absurd (omega arith)
+number-row (lettered s) k n z e h = absurd (omega arith)
+number-row (listed a s) k n z e h = absurd (omega arith)
+number-row (mapped s) k n z e h = absurd (omega arith)
+number-row (arrayed s) k n z e h = absurd (omega arith)
+number-row describing k n z e h = absurd (omega arith)
+
+record NumberFront (l : ℕ) (w : List ℕ) (z : ℕ) : Type 0 where
+  pub kind : ℕ
+  pub number : ℕ
+  pub front : Front l w kind number
+  pub row : NumberRow (styleOf kind) kind number z
+
+number-alone : (l k n : ℕ) (w : List ℕ) (z y : ℕ) → numberSize (styleOf k) k n ≡ y → alone y ≡ Number z → NumberFront (suc l) (k ∷ n ∷ w) z
+number-alone l k n w z zero e h = let o : _≡_ {A = ℕ} 0 1 = cc in absurd (omega arith)
+number-alone l k n w z (suc y) e h =
+    let o : suc y ≡ z = cc in
+    record { kind = k; number = n; front = record { level = omega arith; words = refl }; row = number-row (styleOf k) k n z (e ∙ o) (omega arith) }
+
+number-front : (l : ℕ) (w : List ℕ) (z : ℕ) → takenOf l w ≡ Number z → NumberFront l w z
+unfolding takenOf
+number-front zero w z e = let o : _≡_ {A = ℕ} 0 1 = cc in absurd (omega arith)
+number-front (suc l) [] z e = let o : _≡_ {A = ℕ} 0 1 = cc in absurd (omega arith)
+number-front (suc l) (k ∷ []) z e = let o : _≡_ {A = ℕ} 0 1 = cc in absurd (omega arith)
+number-front (suc l) (k ∷ n ∷ w) z e = go (opens (styleOf k) k n) e
+  where
+    go : (b : Bool) → if b (Open k n) (alone (numberSize (styleOf k) k n)) ≡ Number z → NumberFront (suc l) (k ∷ n ∷ w) z
+    go true h = let o : _≡_ {A = ℕ} 0 1 = cc in absurd (omega arith)
+    go false h = number-alone l k n w z (numberSize (styleOf k) k n) refl h
+
+-- An open row
+
+record OpenRow (s : Style) (k n : ℕ) : Type 0 where
+  pub bare : Bare s k n
+  pub full : children s n ≡ n
+  pub spot : firstIn s n ≡ any
+  pub marked : markWidth s n ≡ if (eqb k 0) 0 3
+  pub headed : (b : ℕ) → length (head s (k % 256) n b) ≡ if (eqb k 0) 1 (if (ltb b shortEnd) 3 9)
+
+-- of those that hold values only described ones are of kind 0
+named : ℕ → Style → Bool
+named k foreign = true
+named k (numbered s w) = true
+named k (blob w) = true
+named k (lettered s) = true
+named k (listed e s) = not (eqb k 0)
+named k (mapped s) = not (eqb k 0)
+named k (arrayed s) = true
+named k describing = eqb k 0
+
+is-named : (k : ℕ) → T (named k (styleOf k))
+unfolding styleOf kinds named allKinds
+is-named k = found-kind named k tt kinds tt
+
+pub enclosed-width : (s k n b : ℕ) → length (enclosure s k n b) ≡ if (ltb b shortEnd) 3 9
+unfolding enclosure
+enclosed-width s k n b = go (ltb b shortEnd)
+  where
+    go : (t : Bool) → length (if t (s ∷ be 1 (1 + b) ++ be 1 n) (k ∷ be 4 (4 + b) ++ be 4 n)) ≡ if t 3 9
+    go true = simp (length-append, length-be)
+    go false = simp (length-append, length-be)
+
+not-T : (b : Bool) → T (not b) → b ≡ false
+not-T true t = absurd t
+not-T false t = refl
+
+counted : (n : ℕ) → ltb 0 n ≡ true → eqb n 0 ≡ false
+counted n e = ne-eqb n 0 (λ (z : n ≡ 0). let y : 0 < n = ltb→lt 0 n (rw e tt) in omega arith)
+
+open-row : (s : Style) (k n : ℕ) → T (named k s) → opens s k n ≡ true → OpenRow s k n
+unfolding opens holder named isKind letters children markWidth codeWidth firstIn head
+open-row foreign k n t e = let o : _≡_ {A = ℕ} 0 1 = cc in absurd (omega arith)
+open-row (numbered s w) k n t e = let o : _≡_ {A = ℕ} 0 1 = cc in absurd (omega arith)
+open-row (blob w) k n t e = let o : _≡_ {A = ℕ} 0 1 = cc in absurd (omega arith)
+open-row (lettered s) k n t e = let o : _≡_ {A = ℕ} 0 1 = cc in absurd (omega arith)
+open-row (listed a s) k n t e =
+    let z = T-true _ (and-left (ltb 0 n) (ranged (listed a s) k n) (rw e tt)) in
+    let r = T-true _ (and-right (ltb 0 n) (ranged (listed a s) k n) (rw e tt)) in
+    record { bare = record { known = refl; inRange = r; silent = refl; uncoded = refl }; full = refl; spot = refl; marked = rw (not-T (eqb k 0) t, counted n z); headed = λ b. rw (not-T (eqb k 0) t, counted n z) (enclosed-width s (k % 256) n b) }
+open-row (mapped s) k n t e =
+    let z = T-true _ (and-left (ltb 0 n) (ranged (mapped s) k n) (rw e tt)) in
+    let r = T-true _ (and-right (ltb 0 n) (ranged (mapped s) k n) (rw e tt)) in
+    record { bare = record { known = refl; inRange = r; silent = refl; uncoded = refl }; full = refl; spot = refl; marked = rw (not-T (eqb k 0) t, counted n z); headed = λ b. rw (not-T (eqb k 0) t) (enclosed-width s (k % 256) n b) }
+open-row (arrayed s) k n t e = let o : _≡_ {A = ℕ} 0 1 = cc in absurd (omega arith)
+open-row describing k n t e =
+    let r = T-true _ (and-right (ltb 0 n) (ranged describing k n) (rw e tt)) in
+    record { bare = record { known = refl; inRange = r; silent = refl; uncoded = refl }; full = refl; spot = refl; marked = rw (T-true (eqb k 0) t); headed = λ b. rw (T-true (eqb k 0) t) }
+
+record OpenFront (l : ℕ) (w : List ℕ) (k n : ℕ) : Type 0 where
+  pub front : Front l w k n
+  pub row : OpenRow (styleOf k) k n
+
+open-front : (l : ℕ) (w : List ℕ) (k n : ℕ) → takenOf l w ≡ Open k n → OpenFront l w k n
+unfolding takenOf
+open-front zero w k n e = let o : _≡_ {A = ℕ} 0 1 = cc in absurd (omega arith)
+open-front (suc l) [] k n e = let o : _≡_ {A = ℕ} 0 1 = cc in absurd (omega arith)
+open-front (suc l) (a ∷ []) k n e = let o : _≡_ {A = ℕ} 0 1 = cc in absurd (omega arith)
+open-front (suc l) (a ∷ m ∷ w) k n e = go (opens (styleOf a) a m) refl e
+  where
+    lone : (y : ℕ) → alone y ≡ Open k n → OpenFront (suc l) (a ∷ m ∷ w) k n
+    lone zero h = let o : _≡_ {A = ℕ} 0 1 = cc in absurd (omega arith)
+    lone (suc y) h = let o : _≡_ {A = ℕ} 0 1 = cc in absurd (omega arith)
+
+    go : (b : Bool) → opens (styleOf a) a m ≡ b → if b (Open a m) (alone (numberSize (styleOf a) a m)) ≡ Open k n → OpenFront (suc l) (a ∷ m ∷ w) k n
+    go true g h =
+        let i : a ≡ k = cc in
+        let j : m ≡ n = cc in
+        record { front = record { level = omega arith; words = rw (i, j) }; row = open-row (styleOf k) k n (is-named k) (rw (i, j) at g) }
+    go false g h = lone (numberSize (styleOf a) a m) h
+
+-- What is taken, by what was found of the row
+
+pub taken-deep : (l : ℕ) (w : List ℕ) → l ≡ 0 → Other ≡ takenOf l w
+unfolding takenOf
+taken-deep l w e = rw e
+
+pub taken-missing : (l : ℕ) (w : List ℕ) → length w < 2 → Other ≡ takenOf l w
+unfolding takenOf
+taken-missing zero w h = refl
+taken-missing (suc l) [] h = refl
+taken-missing (suc l) (k ∷ []) h = refl
+taken-missing (suc l) (k ∷ n ∷ w) h = absurd (omega arith)
+
+module _ (l k n : ℕ) (w : List ℕ) (h : 0 < l) (b : Bool) (e : b ≡ opens (styleOf k) k n) where
+  pub taken-open : b ≡ true → Open k n ≡ takenOf l (k ∷ n ∷ w)
+  unfolding takenOf
+  taken-open f = go l h
+    where
+      go : (l : ℕ) → 0 < l → Open k n ≡ takenOf l (k ∷ n ∷ w)
+      go zero h = absurd (omega arith)
+      go (suc l) h = rw (← e, f)
+
+  module _ (f : b ≡ false) (z : ℕ) (i : z ≡ numberSize (styleOf k) k n) where
+    taken-alone : alone z ≡ takenOf l (k ∷ n ∷ w)
+    unfolding takenOf
+    taken-alone = go l h
+      where
+        go : (l : ℕ) → 0 < l → alone z ≡ takenOf l (k ∷ n ∷ w)
+        go zero h = absurd (omega arith)
+        go (suc l) h = rw (← e, f, i)
+
+    pub taken-other : z ≡ 0 → Other ≡ takenOf l (k ∷ n ∷ w)
+    taken-other j = rw j at taken-alone
+
+    pub taken-number : ¬ (z ≡ 0) → Number z ≡ takenOf l (k ∷ n ∷ w)
+    taken-number j = go z j ∙ taken-alone
+      where
+        go : (y : ℕ) → ¬ (y ≡ 0) → Number y ≡ alone y
+        go zero j = absurd (j refl)
+        go (suc y) j = refl
+
+-- Turns
+
+-- a place with other fields that are the same
+moved : (P : Extent → Type 0) {a b d e a′ b′ d′ e′ : ℕ} → a ≡ a′ → b ≡ b′ → d ≡ d′ → e ≡ e′ → P (record { row = a; text = b; size = d; mark = e }) → P (record { row = a′; text = b′; size = d′; mark = e′ })
+moved P p q r s h = rw (p, q, r, s) at h
+
+no-mark : (b : List ℕ) (m width body : ℕ) → width ≡ 0 → b ≡ sets b m (be width body)
+unfolding be
+no-mark b m width body e = rw e
+
+module _ (w x : List ℕ) (l : ℕ) (o : Extent) (n : ℕ) (b : List ℕ) (g : Within w x o) (h : 0 < n) where
+  -- a number of z bytes
+  module _ (z : ℕ) (t : takenOf l (drop (2 * (o .row)) w) ≡ Number z) where
+    number-at : NumberFront l (drop (2 * (o .row)) w) z
+    number-at = number-front l (drop (2 * (o .row)) w) z t
+
+    number-entered : Entered w x l (o .row) (o .text) (number-at .kind) (number-at .number) (o .mark) b
+        (Fits (record { row = o .row + 1; text = o .text + letters (styleOf (number-at .kind)) (number-at .number); size = 0; mark = o .mark + markWidth (styleOf (number-at .kind)) (number-at .number) })) b
+    number-entered = entered-none w x l (o .row) (o .text) (number-at .kind) (number-at .number) (o .mark) b (styleOf (number-at .kind)) _ _ _ refl refl refl refl (omega (arith, number-at .row .barren))
+
+    number-checked : check l any (o .row) (drop (2 * (o .row)) w) (drop (o .text) x) ≡ got (number-at .kind, number-at .number)
+    number-checked = bare-check l (o .row) (number-at .kind) (number-at .number) (drop (2 * (o .row)) w) (drop (o .text) x) (number-at .front) (number-at .row .bare)
+
+    number-adds : (P : Extent → Type 0) → P (record {
+      row = o .row + 1;
+      text = o .text + letters (styleOf (number-at .kind)) (number-at .number);
+      size = o .size + (headSize any (styleOf (number-at .kind)) (number-at .kind) (number-at .number) (codeWidth (styleOf (number-at .kind)) (number-at .number) + 0) + letters (styleOf (number-at .kind)) (number-at .number) + (codeWidth (styleOf (number-at .kind)) (number-at .number) + 0));
+      mark = o .mark + markWidth (styleOf (number-at .kind)) (number-at .number);
+    }) → P (past o 0 z)
+    unfolding headSize
+    number-adds P =
+        let r = number-at .row in
+        moved P refl (omega (arith, r .bare .silent)) (omega (arith, r .bare .silent, r .bare .uncoded, r .sized (codeWidth (styleOf (number-at .kind)) (number-at .number) + 0))) (omega (arith, r .unmarked))
+
+    pub number-within : Within w x (past o 0 z)
+    number-within = number-adds (Within w x) (turn-within w x l any o n b g tt h (number-at .kind) (number-at .number) number-checked _ b number-entered _ refl)
+
+    pub number-comes : Comes w x l any o n b any (past o 0 z) (n - 1) b
+    unfolding next
+    number-comes =
+        number-adds (λ e. Comes w x l any o n b any e (n - 1) b)
+        (turn-comes w x l any o n b g tt h (number-at .kind) (number-at .number) number-checked _ b number-entered _ refl b (λ y. no-mark b (o .mark) _ _ (number-at .row .unmarked)) refl)
+
+  -- an open row of kind k with m children, of which y is found
+  module _ (k m : ℕ) (t : takenOf l (drop (2 * (o .row)) w) ≡ Open k m) (width : ℕ) (i : width ≡ if (eqb k 0) 0 3) (y : Sized) (b₁ : List ℕ)
+      (sums : y ≡ totalFrom any (record { row = o .row + 1; text = o .text; size = 0; mark = o .mark + width }) (values w x (l - 1) any m (o .row + 1) (o .text)))
+      (marks : Marked b (o .mark + width) b₁ (values w x (l - 1) any m (o .row + 1) (o .text))) (kept : length b₁ ≡ length b) where
+    open-at : OpenFront l (drop (2 * (o .row)) w) k m
+    open-at = open-front l (drop (2 * (o .row)) w) k m t
+
+    open-entered : Entered w x l (o .row) (o .text) k m (o .mark) b y b₁
+    open-entered =
+        let j : o .text + 0 ≡ o .text = omega arith in
+        entered-some w x l (o .row) (o .text) k m (o .mark) b (styleOf k) 0 m width any y b₁ refl (sym (open-at .row .bare .silent)) (sym (open-at .row .full)) (i ∙ sym (open-at .row .marked)) (sym (open-at .row .spot)) (rw j sums) (rw j marks) kept
+
+    open-checked : check l any (o .row) (drop (2 * (o .row)) w) (drop (o .text) x) ≡ got (k, m)
+    open-checked = bare-check l (o .row) k m (drop (2 * (o .row)) w) (drop (o .text) x) (open-at .front) (open-at .row .bare)
+
+    pub open-level : 0 < l
+    open-level = open-at .front .level
+
+    pub open-no : (f : Refusal) → y ≡ Refused f → tree l any (o .row) (drop (2 * (o .row)) w) (drop (o .text) x) ≡ refuse (f .number) (at (f .place))
+    open-no f e = turn-no w x l any o n b g tt h k m open-checked y b₁ open-entered f e
+
+    module _ (e : Extent) (fits : y ≡ Fits e) (top : ℕ) (j : top ≡ if (eqb k 0) 1 (if (ltb (e .size) shortEnd) 3 9)) where
+      open-adds : (P : Extent → Type 0)
+          → P (record { row = e .row; text = e .text; size = o .size + (headSize any (styleOf k) k m (codeWidth (styleOf k) m + e .size) + letters (styleOf k) m + (codeWidth (styleOf k) m + e .size)); mark = e .mark })
+          → P (record { row = e .row; text = e .text; size = o .size + (top + e .size); mark = e .mark })
+      unfolding headSize
+      open-adds P =
+          let r = open-at .row in
+          let a : codeWidth (styleOf k) m + e .size ≡ e .size = omega (arith, r .bare .uncoded) in
+          moved P refl refl (rw a (omega (arith, r .bare .silent, r .headed (e .size), j))) refl
+
+      pub open-within : Within w x (record { row = e .row; text = e .text; size = o .size + (top + e .size); mark = e .mark })
+      open-within = open-adds (Within w x) (turn-within w x l any o n b g tt h k m open-checked y b₁ open-entered e fits)
+
+      pub open-comes : (b₂ : List ℕ) → (o .mark + width ≤ length b₁ → b₂ ≡ sets b₁ (o .mark) (be width (e .size))) → length b₂ ≡ length b₁
+          → Comes w x l any o n b any (record { row = e .row; text = e .text; size = o .size + (top + e .size); mark = e .mark }) (n - 1) b₂
+      unfolding next
+      open-comes b₂ put same =
+          let a : codeWidth (styleOf k) m + e .size ≡ e .size = omega (arith, open-at .row .bare .uncoded) in
+          open-adds (λ d. Comes w x l any o n b any d (n - 1) b₂)
+          (turn-comes w x l any o n b g tt h k m open-checked y b₁ open-entered e fits b₂ (rw (a, ← i ∙ sym (open-at .row .marked)) put) same)
+
+-- the place of an open row's first child
+pub open-first : (w x : List ℕ) (l : ℕ) (o : Extent) (k m width : ℕ) → Within w x o → takenOf l (drop (2 * (o .row)) w) ≡ Open k m → width ≡ if (eqb k 0) 0 3
+    → Within w x (record { row = o .row + 1; text = o .text; size = 0; mark = o .mark + width }) × (0 < l)
+open-first w x l o k m width g t i =
+    let f = open-front l (drop (2 * (o .row)) w) k m t .front in
+    let a : width ≤ 3 = rw i (if-case (λ (z : ℕ). z ≤ 3) (eqb k 0) 0 3 (λ y. omega arith) (λ y. omega arith)) in
+    (record { rows = omega (arith, ap length (f .words), length-drop (2 * (o .row)) w); letters = g .letters; marked = omega (arith, g .marked); small = omega arith }, f .level)
+
+-- Elements of an array
+
+-- a spot in an array
+abbrev pub Inner : Spot → Type 0
+Inner any = ⊥
+Inner first = Unit {0}
+Inner (like k) = Unit {0}
+
+pub inner-next : (c : Spot) (k : ℕ) → Inner c → Inner (next c k)
+unfolding next
+inner-next any k i = i
+inner-next first k i = tt
+inner-next (like j) k i = tt
+
+inner-plain : (c : Spot) (k : ℕ) → Inner c → Sure c → T (allowed c k) → T (plain (styleOf k))
+unfolding allowed
+inner-plain any k i p t = absurd i
+inner-plain first k i p t = t
+inner-plain (like j) k i p t = rw (eqb→eq k j t) p
+
+inner-head : (c : Spot) (s : Style) (k n b : ℕ) → Inner c → headSize c s k n b ≡ itemWidth s
+unfolding headSize
+inner-head any s k n b i = absurd i
+inner-head first s k n b i = refl
+inner-head (like j) s k n b i = refl
+
+plain-uncoded : (s : Style) (n : ℕ) → T (plain s) → codeWidth s n ≡ 0
+unfolding plain codeWidth
+plain-uncoded foreign n p = refl
+plain-uncoded (numbered s w) n p = refl
+plain-uncoded (blob w) n p = refl
+plain-uncoded (lettered s) n p = refl
+plain-uncoded (listed e s) n p = absurd p
+plain-uncoded (mapped s) n p = absurd p
+plain-uncoded (arrayed s) n p = absurd p
+plain-uncoded describing n p = absurd p
+
+module _ (w x : List ℕ) (l : ℕ) (c : Spot) (o : Extent) (n : ℕ) (b : List ℕ) (g : Within w x o) (i : Inner c) (p : Sure c) (h : 0 < n) (k m : ℕ)
+    (q : check l c (o .row) (drop (2 * (o .row)) w) (drop (o .text) x) ≡ got (k, m)) where
+  item-plain : T (plain (styleOf k))
+  item-plain = inner-plain c k i p (check-allowed l c (o .row) (drop (2 * (o .row)) w) (drop (o .text) x) k m q)
+
+  item-entered : Entered w x l (o .row) (o .text) k m (o .mark) b (Fits (record { row = o .row + 1; text = o .text + letters (styleOf k) m; size = 0; mark = o .mark + markWidth (styleOf k) m })) b
+  item-entered = entered-none w x l (o .row) (o .text) k m (o .mark) b (styleOf k) _ _ _ refl refl refl refl (omega (arith, plain-leaf (styleOf k) m item-plain .0))
+
+  item-adds : (P : Extent → Type 0)
+      → P (record { row = o .row + 1; text = o .text + letters (styleOf k) m; size = o .size + (headSize c (styleOf k) k m (codeWidth (styleOf k) m + 0) + letters (styleOf k) m + (codeWidth (styleOf k) m + 0)); mark = o .mark + markWidth (styleOf k) m })
+      → P (past o (letters (styleOf k) m) (itemWidth (styleOf k) + letters (styleOf k) m))
+  item-adds P =
+      moved P refl refl (omega (arith, plain-uncoded (styleOf k) m item-plain, inner-head c (styleOf k) k m (codeWidth (styleOf k) m + 0) i)) (omega (arith, plain-leaf (styleOf k) m item-plain .1))
+
+  pub item-within : Within w x (past o (letters (styleOf k) m) (itemWidth (styleOf k) + letters (styleOf k) m))
+  item-within = item-adds (Within w x) (turn-within w x l c o n b g p h k m q _ b item-entered _ refl)
+
+  pub item-comes : Comes w x l c o n b (next c k) (past o (letters (styleOf k) m) (itemWidth (styleOf k) + letters (styleOf k) m)) (n - 1) b
+  item-comes =
+      item-adds (λ e. Comes w x l c o n b (next c k) e (n - 1) b)
+      (turn-comes w x l c o n b g p h k m q _ b item-entered _ refl b (λ y. no-mark b (o .mark) _ _ (plain-leaf (styleOf k) m item-plain .1)) refl)
+
+  pub item-sure : Sure (next c k)
+  item-sure = turn-sure w x l c o n b g p h k m q _ b item-entered _ refl
+
+  -- in the code's own words: its style s, its bytes of text and the width of its number
+  module _ (s : Style) (f : s ≡ styleOf k) (le iw : ℕ) (fl : le ≡ letters s m) (fi : iw ≡ itemWidth s) where
+    here : past o le (iw + le) ≡ past o (letters (styleOf k) m) (itemWidth (styleOf k) + letters (styleOf k) m)
+    here =
+        let a : le ≡ letters (styleOf k) m = rw f at fl in
+        let d : iw ≡ itemWidth (styleOf k) = rw f at fi in
+        rw (a, d)
+
+    pub item-sums : length w * 8 < 2 ^ 63 → length x * 1 < 2 ^ 63 → (iw + le < 2 ^ 64) × (o .row + 1 < 2 ^ 64) × (o .text + le < 2 ^ 64) × (o .size + (iw + le) < 2 ^ 64)
+    item-sums y z =
+        let v : Within w x (past o le (iw + le)) = rw here item-within in
+        (omega (arith, v .small, v .rows, v .letters), omega (arith, v .rows), omega (arith, v .letters), omega (arith, v .small, v .rows, v .letters))
+
+    pub item-turn : {c₀ : Spot} {o₀ : Extent} {n₀ : ℕ} {b₀ : List ℕ} → Comes w x l c₀ o₀ n₀ b₀ c o n b
+        → Within w x (past o le (iw + le)) × Inner (next c k) × Sure (next c k) × Comes w x l c₀ o₀ n₀ b₀ (next c k) (past o le (iw + le)) (n - 1) b
+    item-turn y = rw here (item-within, inner-next c k i, item-sure, comes-on y item-comes)
+
+-- elements have no marks
+items-unmarked : (vs : Trees) (l : ℕ) (c : Spot) → Inner c → Sure c → All (λ d v. Valid l d v) c vs → marks* vs ≡ []
+unfolding marks be
+items-unmarked none l c i p a = refl
+items-unmarked (more (node k n t cs) vs) zero c i p a = absurd (a .0)
+items-unmarked (more (node k n t cs) vs) (suc l) c i p a =
+    let r = a .0 .0 in
+    let y = inner-plain c k i p (r .fits) in
+    rw (plain-leaf (styleOf k) n y .1, no-children cs (r .full ∙ plain-leaf (styleOf k) n y .0)) (items-unmarked vs (suc l) (next c k) (inner-next c k i) (sure-next c k p (r .fits)) (a .1))
+
+-- Another row: its children, if it has any, are elements
+
+-- a row that is not open has no children but elements
+clash : _≡_ {A = Bool} true false → ⊥
+clash e = subst T e tt
+
+closed-row : (s : Style) (k n : ℕ) → opens s k n ≡ false → ranged s k n ≡ true → children s n ≡ elementsOf s n
+unfolding opens holder ranged children elementsOf
+closed-row foreign k n e r = refl
+closed-row (numbered s w) k n e r = refl
+closed-row (blob w) k n e r = refl
+closed-row (lettered s) k n e r = refl
+closed-row (listed a s) k zero e r = refl
+closed-row (listed a s) k (suc n) e r = absurd (clash (rw (lt-ltb 0 (suc n) (omega arith), r) at e))
+closed-row (mapped s) k zero e r = refl
+closed-row (mapped s) k (suc n) e r = absurd (clash (rw (lt-ltb 0 (suc n) (omega arith), r) at e))
+closed-row (arrayed s) k n e r = refl
+closed-row describing k zero e r = refl
+closed-row describing k (suc n) e r = absurd (clash (rw (lt-ltb 0 (suc n) (omega arith), r) at e))
+
+other-closed : (l : ℕ) (w v : List ℕ) (k n : ℕ) → w ≡ k ∷ n ∷ v → 0 < l → takenOf l w ≡ Other → opens (styleOf k) k n ≡ false
+unfolding takenOf
+other-closed zero w v k n e h t = absurd (omega arith)
+other-closed (suc l) w v k n e h t = go (opens (styleOf k) k n) (rw e at t)
+  where
+    go : (b : Bool) → if b (Open k n) (alone (numberSize (styleOf k) k n)) ≡ Other → b ≡ false
+    go true f = let o : _≡_ {A = ℕ} 0 1 = cc in absurd (omega arith)
+    go false f = refl
+
+-- what is found of its elements is what is below it
+items-total : (w x : List ℕ) (l i j a : ℕ) (s : Style) (n : ℕ) → children s n ≡ elementsOf s n
+    → total first i j 0 a (values w x l first (elementsOf s n) i j) ≡ total (firstIn s n) i j 0 a (values w x l (firstIn s n) (children s n) i j)
+unfolding total several sizeIn elementsOf firstIn children payloads
+items-total w x l i j a foreign n e = refl
+items-total w x l i j a (numbered s v) n e = refl
+items-total w x l i j a (blob v) n e = refl
+items-total w x l i j a (lettered s) n e = refl
+items-total w x l i j a (listed d s) n e = rw e
+items-total w x l i j a (mapped s) n e = rw e
+items-total w x l i j a (arrayed s) n e = refl
+items-total w x l i j a describing n e = rw e
+
+items-marked : (w x : List ℕ) (l n i j m : ℕ) (b : List ℕ) → Marked b m b (values w x l first n i j)
+unfolding Marked
+items-marked w x l n i j m b = go (values w x l first n i j) refl
+  where
+    go : (a : Answer (Trees × List ℕ × List ℕ)) → values w x l first n i j ≡ a → Marked b m b a
+    go (got (vs, u, y)) e = λ r. rw (items-unmarked vs l first tt tt (taken w x l first n i j vs u y e .valid))
+    go (refuse d p) e = tt
+
+none-marked : (w x : List ℕ) (l i j m : ℕ) (b : List ℕ) (s : Style) (n : ℕ) → children s n ≡ elementsOf s n → Marked b m b (values w x l (firstIn s n) (children s n) i j)
+unfolding Marked several elementsOf firstIn children marks*
+none-marked w x l i j m b foreign n e = λ r. refl
+none-marked w x l i j m b (numbered s v) n e = λ r. refl
+none-marked w x l i j m b (blob v) n e = λ r. refl
+none-marked w x l i j m b (lettered s) n e = λ r. refl
+none-marked w x l i j m b (listed d s) n e = rw e (λ r. refl)
+none-marked w x l i j m b (mapped s) n e = rw e (λ r. refl)
+none-marked w x l i j m b (arrayed s) n e = items-marked w x l n i j m b
+none-marked w x l i j m b describing n e = rw e (λ r. refl)
+
+-- the place of its first element
+pub other-first : (w x : List ℕ) (l : ℕ) (o : Extent) (k m : ℕ) (s : Style) (le mw : ℕ) → Within w x o → check l any (o .row) (drop (2 * (o .row)) w) (drop (o .text) x) ≡ got (k, m) → s ≡ styleOf k → le ≡ letters s m → mw ≡ markWidth s m
+    → Within w x (record { row = o .row + 1; text = o .text + le; size = 0; mark = o .mark + mw }) × (0 < l)
+other-first w x l o k m s le mw g q f fl fm =
+    let e = stands w x l any (o .row) (o .text) k m (g .rows) (g .letters) q in
+    let a : le ≡ letters (styleOf k) m = rw f at fl in
+    (record { rows = omega (arith, e .row); letters = omega (arith, e .letter); marked = omega (arith, g .marked, mark-small s m); small = omega arith }, e .level)
+
+module _ (w x : List ℕ) (l : ℕ) (o : Extent) (b : List ℕ) (g : Within w x o) (k m : ℕ) (q : check l any (o .row) (drop (2 * (o .row)) w) (drop (o .text) x) ≡ got (k, m))
+    (t : takenOf l (drop (2 * (o .row)) w) ≡ Other) (s : Style) (f : s ≡ styleOf k) (le it mw : ℕ) (fl : le ≡ letters s m) (fi : it ≡ elementsOf s m) (fm : mw ≡ markWidth s m) (z : Sized)
+    (sums : z ≡ totalFrom first (record { row = o .row + 1; text = o .text + le; size = 0; mark = o .mark + mw }) (values w x (l - 1) first it (o .row + 1) (o .text + le))) where
+  other-children : children (styleOf k) m ≡ elementsOf (styleOf k) m
+  other-children =
+      let e = stands w x l any (o .row) (o .text) k m (g .rows) (g .letters) q in
+      closed-row (styleOf k) k m
+      (other-closed l (drop (2 * (o .row)) w) (drop 2 (drop (2 * (o .row)) w)) k m (check-front l any (o .row) (drop (2 * (o .row)) w) (drop (o .text) x) k m q) (e .level) t)
+      (T-true _ (check-ranged l any (o .row) (drop (2 * (o .row)) w) (drop (o .text) x) k m q))
+
+  other-entered : Entered w x l (o .row) (o .text) k m (o .mark) b z b
+  other-entered =
+      let a : le ≡ letters (styleOf k) m = rw f at fl in
+      let d : it ≡ elementsOf (styleOf k) m = rw f at fi in
+      let e : mw ≡ markWidth (styleOf k) m = rw f at fm in
+      record {
+        sums = (rw (a, d, e) at sums) ∙ items-total w x (l - 1) (o .row + 1) (o .text + letters (styleOf k) m) (o .mark + markWidth (styleOf k) m) (styleOf k) m other-children;
+        marks = none-marked w x (l - 1) (o .row + 1) (o .text + letters (styleOf k) m) (o .mark + markWidth (styleOf k) m) b (styleOf k) m other-children;
+        kept = refl;
+      }
+
+  pub other-no : (r : Refusal) → z ≡ Refused r → Rowed w x l o b b (Refused r)
+  other-no r e = turn-no w x l any o 1 b g tt (omega arith) k m q z b other-entered r e
+
+  module _ (e : Extent) (fits : z ≡ Fits e) (cw : ℕ) (fc : cw ≡ codeWidth s m) where
+    -- all that the row adds up is small
+    pub other-within : Within w x (record { row = e .row; text = e .text; size = o .size + (length (head (styleOf k) (k % 256) m (cw + e .size)) + le + (cw + e .size)); mark = e .mark })
+    unfolding headSize
+    other-within =
+        let a : le ≡ letters (styleOf k) m = rw f at fl in
+        let d : cw ≡ codeWidth (styleOf k) m = rw f at fc in
+        rw (a, d) (turn-within w x l any o 1 b g tt (omega arith) k m q z b other-entered e fits)
+
+    pub other-row : (hs : ℕ) → hs ≡ length (head (styleOf k) (k % 256) m (cw + e .size)) → (b₂ : List ℕ) → (o .mark + mw ≤ length b → b₂ ≡ sets b (o .mark) (be mw (cw + e .size))) → length b₂ ≡ length b
+        → Rowed w x l o b b₂ (Fits (record { row = e .row; text = e .text; size = o .size + (hs + le + (cw + e .size)); mark = e .mark }))
+    unfolding headSize next
+    other-row hs fh b₂ put same =
+        let a : le ≡ letters (styleOf k) m = rw f at fl in
+        let d : cw ≡ codeWidth (styleOf k) m = rw f at fc in
+        let i : mw ≡ markWidth (styleOf k) m = rw f at fm in (
+          rw fh other-within,
+          λ n h. rw (fh, a, d) (turn-comes w x l any o n b g tt h k m q z b other-entered e fits b₂ (rw (i, d) at put) same),
+        )
+
+-- the beginning of a table
+pub at-start : (w x : List ℕ) (m : ℕ) → m ≤ 2 ^ 62 → Within w x (start m)
+at-start w x m h = record { rows = omega arith; letters = omega arith; marked = omega arith; small = omega arith }
