@@ -2,22 +2,22 @@
 use Prim.Native.Nat.{ℕ, zero, suc, _+_, _*_, _-_, _%_, _^_, _≤_, _<_}
 use mathlib.Core.Path.{_≡_, refl, sym, ap, _∙_}
 use mathlib.Core.List.{List, [], _∷_, _++_, append-assoc, append-nil}
-use mathlib.Core.Bool.{Bool, true, false, _&&_}
+use mathlib.Core.Bool.{Bool, true, false, not, _||_}
 use native.Mathlib.Omega.{arith}
 use lib.Dec.{T, eqb, leb, ltb, eqb→eq, ltb→lt, leb→le, lit≤}
 use lib.ListN.{length, length-append}
-use Rattle.standard.specs.Choose.{if, lookup}
+use Rattle.standard.specs.Choose.{if}
 use Rattle.standard.specs.Bytes.{be, unbe, spell}
 use Rattle.standard.specs.Tree.{Tree, node, Trees, none, more, count}
-use Rattle.standard.specs.Kinds.{Short, never, flag, unsigned, signed, Kind, kind, kinds, Style, foreign, numbered, blob, lettered, listed, mapped, arrayed, describing, styleOf, isKind, plain}
+use Rattle.standard.specs.Kinds.{Short, never, flag, unsigned, signed, kinds, Style, foreign, numbered, blob, lettered, listed, mapped, arrayed, describing, styleOf, isKind, plain}
 use Rattle.standard.specs.Table.{letters, children}
 use Rattle.standard.specs.Encode.{fitsByte, shortEnd, shortest, enclosed, compact, wide, headed, encode, encode*, item, payloads}
-use Rattle.standard.specs.Laws.Answers.{if-case, and-left, and-right}
 use Rattle.standard.specs.Laws.Numbers.{length-be, unbe-be}
 use Rattle.standard.specs.Laws.Written.{no-children, no-text}
 use Rattle.writer.specs.Heads.{enclosure, head, itemWidth, bodyOf, headIs}
 use Rattle.writer.specs.declared.head.Head.{Head}
 use Rattle.writer.specs.Marks.{markWidth}
+use Rattle.writer.proofs.Tabled.{allKinds, of-kind}
 
 enclosed-head : (s k n : ℕ) (b : List ℕ) → enclosed s k n b ≡ enclosure s k n (length b) ++ b
 unfolding enclosed enclosure
@@ -90,21 +90,16 @@ marked-head (arrayed s) k n cs c h = rw (marked-body n (headed cs (payloads cs))
 marked-head describing k n cs c h = refl
 
 -- every kind is a byte
-allBytes : List Kind → Bool
-allBytes [] = true
-allBytes (e ∷ es) = ltb (e .kind) 256 && allBytes es
-
-kind-in : (k : ℕ) (es : List Kind) → T (allBytes es) → T (isKind (lookup (λ e. e .kind) (kind k foreign) k es .style)) → k < 256
-unfolding lookup isKind allBytes
-kind-in k [] a t = absurd t
-kind-in k (e ∷ es) a t =
-    if-case (λ (x : Kind). T (isKind (x .style)) → k < 256) (eqb k (e .kind)) e (lookup (λ e. e .kind) (kind k foreign) k es)
-    (λ y z. rw (eqb→eq k (e .kind) y) (ltb→lt (e .kind) 256 (and-left (ltb (e .kind) 256) (allBytes es) a)))
-    (λ y z. kind-in k es (and-right (ltb (e .kind) 256) (allBytes es) a) z) t
+byteKind : ℕ → Style → Bool
+byteKind k s = not (isKind s) || ltb k 256
 
 pub kind-small : (k : ℕ) → T (isKind (styleOf k)) → k < 256
-unfolding styleOf kinds allBytes
-kind-small k t = kind-in k kinds tt t
+unfolding kinds isKind allKinds byteKind
+kind-small k t = ltb→lt k 256 (go (isKind (styleOf k)) t (of-kind byteKind k tt tt))
+  where
+    go : (b : Bool) → T b → T (not b || ltb k 256) → T (ltb k 256)
+    go true t h = h
+    go false t h = absurd t
 
 -- numbers have at most eight bytes, so heads have at most nine
 narrow : Style → Bool
@@ -117,20 +112,9 @@ narrow (mapped s) = true
 narrow (arrayed s) = true
 narrow describing = true
 
-allNarrow : List Kind → Bool
-allNarrow [] = true
-allNarrow (e ∷ es) = narrow (e .style) && allNarrow es
-
-narrow-in : (k : ℕ) (es : List Kind) → T (allNarrow es) → T (narrow (lookup (λ e. e .kind) (kind k foreign) k es .style))
-unfolding lookup narrow allNarrow
-narrow-in k [] a = tt
-narrow-in k (e ∷ es) a =
-    if-case (λ (x : Kind). T (narrow (x .style))) (eqb k (e .kind)) e (lookup (λ e. e .kind) (kind k foreign) k es)
-    (λ y. and-left (narrow (e .style)) (allNarrow es) a) (λ y. narrow-in k es (and-right (narrow (e .style)) (allNarrow es) a))
-
 style-narrow : (k : ℕ) → T (narrow (styleOf k))
-unfolding styleOf kinds narrow allNarrow
-style-narrow k = narrow-in k kinds tt
+unfolding kinds narrow allKinds
+style-narrow k = of-kind (λ j s. narrow s) k tt tt
 
 if-short : (b : Bool) (x y : List ℕ) (n : ℕ) → length x ≤ n → length y ≤ n → length (if b x y) ≤ n
 if-short true x y n h i = h

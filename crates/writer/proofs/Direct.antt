@@ -21,6 +21,7 @@ use Rattle.writer.specs.Heads.{head}
 use Rattle.writer.specs.Marks.{markWidth}
 use Rattle.writer.specs.Filling.{elementsOf, elementCode, isNumber, isListOrMap, numberHead, compoundHead, Put, behind, kindAt, numberAt, Ready, Stepped}
 use Rattle.writer.specs.declared.filling.Cursor.{Cursor}
+use Rattle.writer.proofs.Tabled.{kindsOnto, other}
 use Rattle.writer.proofs.Stores.{put-on}
 use Rattle.writer.proofs.Rows.{Row, value-row, stepped}
 
@@ -55,30 +56,7 @@ pub sized-put : (l l₁ l₂ : List ℕ) (at k w x n r : ℕ) → Put (k ∷ be 
 sized-put l l₁ l₂ at k w x n r p e =
     record { size = omega (arith, p .size, coded-long k w x, sized-long k w x n); stored = put-on l l₁ l₂ at (at + r) (k ∷ be w x) (be w n) (p .stored) e (omega (arith, p .size)) }
 
--- The last arm of a match on kinds
-
--- the kinds of the styles that a test picks, the last of the table first
-abbrev kindsOnto : (Style → Bool) → List Kind → List ℕ → List ℕ
-kindsOnto p [] ks = ks
-kindsOnto p (e ∷ es) ks = kindsOnto p es (if (p (e .style)) (e .kind ∷ ks) ks)
-
-unpicked : (p : Style → Bool) → p foreign ≡ false → (k : ℕ) (es : List Kind) (ks : List ℕ) → Rest (kindsOnto p es ks) k → (p (lookup (λ e. e .kind) (kind k foreign) k es .style) ≡ false) × Rest ks k
-unfolding lookup
-unpicked p z k [] ks h = (z, h)
-unpicked p z k (e ∷ es) ks h = go (p (e .style)) refl (λ js i. unpicked p z k es js i) h
-  where
-    go : (t : Bool) → p (e .style) ≡ t → ((js : List ℕ) → Rest (kindsOnto p es js) k → (p (lookup (λ e. e .kind) (kind k foreign) k es .style) ≡ false) × Rest js k) → Rest (kindsOnto p es (if t (e .kind ∷ ks) ks)) k → (p (if (eqb k (e .kind)) e (lookup (λ e. e .kind) (kind k foreign) k es) .style) ≡ false) × Rest ks k
-    go true q f i =
-        let r = f (e .kind ∷ ks) i in
-        (rw (ne-eqb k (e .kind) (r .1 .1)) (r .0), r .1 .0)
-    go false q f i =
-        let r = f ks i in
-        (if-case (λ x. p (x .style) ≡ false) (eqb k (e .kind)) e (lookup (λ e. e .kind) (kind k foreign) k es) (λ _. q) (λ _. r .0), r .1)
-
--- a kind that no arm names is of none of the styles that the arms are there for
-other : (p : Style → Bool) → p foreign ≡ false → (k : ℕ) → Rest (kindsOnto p kinds []) k → p (styleOf k) ≡ false
-unfolding styleOf
-other p z k h = unpicked p z k kinds [] h .0
+-- What the last arm of a match leaves out
 
 pub no-number : (k j n : ℕ) → Rest (kindsOnto isNumber kinds []) k → numberHead (styleOf k) j n ≡ []
 unfolding numberHead

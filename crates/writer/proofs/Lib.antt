@@ -1,3 +1,4 @@
+pub mod Tabled
 pub mod Bodies
 pub mod Flat
 pub mod Checks

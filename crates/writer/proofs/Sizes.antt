@@ -8,9 +8,9 @@ use native.Mathlib.Omega.{arith}
 use borrow.Author.Tests.{lt-ltb, le-ltb, le-leb, lt-leb, eq-eqb, ne-eqb}
 use lib.Dec.{T, eqb, eqb→eq, leb, ltb, lit<}
 use lib.ListN.{length}
-use Rattle.standard.specs.Choose.{if, lookup}
+use Rattle.standard.specs.Choose.{if}
 use Rattle.standard.specs.Bytes.{be}
-use Rattle.standard.specs.Kinds.{Short, never, flag, unsigned, signed, Style, foreign, numbered, blob, lettered, listed, mapped, arrayed, describing, Kind, kind, kinds, styleOf, fair}
+use Rattle.standard.specs.Kinds.{Short, never, flag, unsigned, signed, Style, foreign, numbered, blob, lettered, listed, mapped, arrayed, describing, kinds, styleOf, fair}
 use Rattle.standard.specs.Table.{most, ranged}
 use Rattle.standard.specs.Encode.{fitsByte, shortest}
 use Rattle.standard.specs.Laws.Numbers.{length-be}
@@ -18,50 +18,12 @@ use Rattle.standard.specs.Laws.Answers.{T-true, and-left, and-right, if-case}
 use Rattle.standard.proofs.Lookup.{Rest}
 use Rattle.writer.specs.Heads.{head}
 use Rattle.writer.proofs.Bodies.{head-short}
+use Rattle.writer.specs.Filling.{isNumber}
 use Rattle.writer.specs.Sizing.{holder, opens, numberSize}
-
--- What holds of every row of the table of kinds
-
-unfoldable pub allKinds : (ℕ → Style → Bool) → List Kind → Bool
-allKinds P [] = true
-allKinds P (e ∷ es) = P (e .kind) (e .style) && allKinds P es
-
-pub found-kind : (P : ℕ → Style → Bool) (k : ℕ) → T (P k foreign) → (es : List Kind) → T (allKinds P es) → T (P k (lookup (λ e. e .kind) (kind k foreign) k es .style))
-unfolding lookup allKinds
-found-kind P k f [] a = f
-found-kind P k f (e ∷ es) a =
-    if-case (λ (x : Kind). T (P k (x .style))) (eqb k (e .kind)) e (lookup (λ e. e .kind) (kind k foreign) k es)
-    (λ y. rw (eqb→eq k (e .kind) y) (and-left (P (e .kind) (e .style)) (allKinds P es) a))
-    (λ y. found-kind P k f es (and-right (P (e .kind) (e .style)) (allKinds P es) a))
-
--- Kinds that none of the keys means
-
-unfoldable pub member : ℕ → List ℕ → Bool
-member n [] = false
-member n (k ∷ ks) = eqb n k || member n ks
-
-no-member : (n : ℕ) (ks : List ℕ) → Rest ks n → member n ks ≡ false
-unfolding member
-no-member n [] h = refl
-no-member n (k ∷ ks) h = rw (ne-eqb n k (h .1)) (no-member n ks (h .0))
-
--- only kinds of these keys have such a style
-unfoldable pub among : (Style → Bool) → List ℕ → ℕ → Style → Bool
-among P ks k s = not (P s) || member k ks
-
-not-either : (a b : Bool) → T (not a || b) → b ≡ false → a ≡ false
-not-either true b t e = absurd (subst T e t)
-not-either false b t e = refl
-
-pub outside : (P : Style → Bool) (ks : List ℕ) (k : ℕ) → T (among P ks k foreign) → T (allKinds (among P ks) kinds) → Rest ks k → P (styleOf k) ≡ false
-unfolding styleOf among
-outside P ks k f a r = not-either (P (styleOf k)) (member k ks) (found-kind (among P ks) k f kinds a) (no-member k ks r)
+use Rattle.writer.proofs.Tabled.{kindsOnto, other}
+use Rattle.writer.proofs.Direct.{coded-long, flag-long}
 
 -- The bytes of a number
-
-never-length : (w c n : ℕ) → length (shortest never w c n) ≡ 1 + w
-unfolding shortest
-never-length w c n = omega (arith, length-be w n)
 
 pub if-yes : (t b : Bool) (x y z : ℕ) → b ≡ t → b ≡ true → z ≡ x → z ≡ if t x y
 if-yes t b x y z e f g = rw (← e, f) g
@@ -70,7 +32,8 @@ pub if-no : (t b : Bool) (x y z : ℕ) → b ≡ t → b ≡ false → z ≡ y �
 if-no t b x y z e f g = rw (← e, f) g
 
 pub never-yes : (w n c : ℕ) (b : Bool) → b ≡ ltb n (256 ^ w) → b ≡ true → 1 + w ≡ if (ltb n (256 ^ w)) (length (shortest never w c n)) 0
-never-yes w n c b e f = if-yes (ltb n (256 ^ w)) b _ 0 (1 + w) e f (sym (never-length w c n))
+unfolding shortest
+never-yes w n c b e f = if-yes (ltb n (256 ^ w)) b _ 0 (1 + w) e f (sym (coded-long c w n))
 
 wide : (w n : ℕ) → 1 ≤ w → n < 256 → n < 256 ^ w
 wide w n h i = let j : 256 ^ 1 ≤ 256 ^ w = pow-le-pow-right {n = 256} (lit< tt) h in omega arith
@@ -97,7 +60,7 @@ signed-wide w s c n a b e f g h = rw (← e, f, ← g, h) (omega (arith, length-
 
 pub boolean-yes : (y x c n : ℕ) → n ≤ 1 → 1 ≡ if (ranged (numbered (flag y x) 1) 0x56 n) (length (shortest (flag y x) 1 c n)) 0
 unfolding ranged fair shortest
-boolean-yes y x c n h = rw (lt-ltb n 256 (omega arith), le-leb n 1 h) (if-case (λ (l : List ℕ). 1 ≡ length l) (eqb n 0) (x ∷ []) (y ∷ []) (λ t. refl) (λ t. refl))
+boolean-yes y x c n h = rw (lt-ltb n 256 (omega arith), le-leb n 1 h) (sym (flag-long (eqb n 0) x y))
 
 and-true : (b : Bool) → (b && true) ≡ b
 and-true true = refl
@@ -123,16 +86,6 @@ char-no c n b e f = rw (← e, f, and-false (ltb n (256 ^ 4)))
 pub fairly : (s : Short) (w c n r : ℕ) → r ≡ if (ltb n (256 ^ w)) (length (shortest s w c n)) 0 → r ≡ if (ltb n (256 ^ w) && true) (length (shortest s w c n)) 0
 fairly s w c n r e = rw (and-true (ltb n (256 ^ w))) e
 
-isNumber : Style → Bool
-isNumber foreign = false
-isNumber (numbered s w) = true
-isNumber (blob w) = false
-isNumber (lettered s) = false
-isNumber (listed e s) = false
-isNumber (mapped s) = false
-isNumber (arrayed s) = false
-isNumber describing = false
-
 no-number : (s : Style) (k n : ℕ) → isNumber s ≡ false → 0 ≡ numberSize s k n
 unfolding isNumber numberSize
 no-number foreign k n e = refl
@@ -144,12 +97,8 @@ no-number (mapped s) k n e = refl
 no-number (arrayed s) k n e = refl
 no-number describing k n e = refl
 
-abbrev pub numberKinds : List ℕ
-numberKinds = 0x84 ∷ 0x83 ∷ 0x82 ∷ 0x81 ∷ 0x80 ∷ 0x74 ∷ 0x73 ∷ 0x72 ∷ 0x71 ∷ 0x70 ∷ 0x61 ∷ 0x60 ∷ 0x56 ∷ 0x51 ∷ 0x50 ∷ 0x40 ∷ []
-
-pub no-number-kind : (k n : ℕ) → Rest numberKinds k → 0 ≡ numberSize (styleOf k) k n
-unfolding kinds allKinds among isNumber member
-no-number-kind k n r = no-number (styleOf k) k n (outside isNumber numberKinds k tt tt r)
+pub no-number-kind : (k n : ℕ) → Rest (kindsOnto isNumber kinds []) k → 0 ≡ numberSize (styleOf k) k n
+no-number-kind k n r = no-number (styleOf k) k n (other isNumber refl k r)
 
 -- Open rows
 
@@ -157,14 +106,11 @@ pub empty-closed : (s : Style) (k n : ℕ) → n ≡ 0 → false ≡ opens s k n
 unfolding opens
 empty-closed s k n e = rw (le-ltb 0 n (omega arith)) (sym (and-false (holder s)))
 
-pub not-open : (k n : ℕ) → Rest (0xd1 ∷ 0xd0 ∷ 0x00 ∷ []) k → false ≡ opens (styleOf k) k n
-unfolding opens kinds allKinds among holder member
-not-open k n r = rw (outside holder (0xd1 ∷ 0xd0 ∷ 0x00 ∷ []) k tt tt r)
+pub not-open : (k n : ℕ) → Rest (kindsOnto holder kinds []) k → false ≡ opens (styleOf k) k n
+unfolding opens holder
+not-open k n r = rw (other holder refl k r)
 
 -- Lengths of heads
-
-pub flag-length : (y x n : ℕ) → length (if (eqb n 0) (x ∷ []) (y ∷ [])) ≡ 1
-flag-length y x n = if-case (λ (l : List ℕ). length l ≡ 1) (eqb n 0) (x ∷ []) (y ∷ []) (λ t. refl) (λ t. refl)
 
 pub number-small : (s : Style) (k : ℕ) (h : Short) (w n c r : ℕ) → s ≡ styleOf k → s ≡ numbered h w → length (shortest h w c n) ≡ 1 + r → 1 + r ≤ 9
 unfolding head

@@ -30,7 +30,7 @@ use Rattle.writer.specs.declared.sizing.Taken.{Taken}
 use Rattle.writer.specs.declared.sizing.Taken.the-variants.{Number, Open, Other}
 use Rattle.writer.specs.declared.sizing.Extent.{Extent}
 use Rattle.standard.specs.Laws.Written.{no-children}
-use Rattle.writer.proofs.Sizes.{allKinds, found-kind}
+use Rattle.writer.proofs.Tabled.{allKinds, of-kind}
 use Rattle.writer.proofs.Checks.{check-good}
 use Rattle.writer.proofs.Flat.{plain-leaf}
 use Rattle.writer.proofs.Sums.{mark-small, below, Entered, entered-none, entered-some, sure-next, turn-within, turn-comes, turn-sure, turn-no, comes-on, taken, stands, check-allowed, check-ranged, check-front}
@@ -126,8 +126,8 @@ named k (arrayed s) = true
 named k describing = eqb k 0
 
 is-named : (k : ℕ) → T (named k (styleOf k))
-unfolding styleOf kinds named allKinds
-is-named k = found-kind named k tt kinds tt
+unfolding kinds named allKinds
+is-named k = of-kind named k tt tt
 
 pub enclosed-width : (s k n b : ℕ) → length (enclosure s k n b) ≡ if (ltb b shortEnd) 3 9
 unfolding enclosure
