@@ -1,0 +1,211 @@
+#!/usr/bin/env python3
+"""model.py FILE...: a model of the writer after docs/FORMAT.md, section by section. It shares nothing with the code.
+
+Computes the answer of each case of the files (write*.txt, size*.txt and own_write*.txt of data/), prints a line a file
+with the number of those that agree, and fails where one differs. It is made for reading, not for speed.
+"""
+import os
+import sys
+
+sys.dont_write_bytecode = True
+from form import bytes_field, bytes_of, cases_in, refusal_field, words_of
+
+MOST = 1_048_576        # 2.7
+LEVELS = 32             # 2.5
+
+DESCRIBED, NULL, BOOLEAN, UINT, INT, CHAR, ULONG, LONG = 0x00, 0x40, 0x56, 0x70, 0x71, 0x73, 0x80, 0x81
+STRING, SYMBOL, LIST, MAP, ARRAY = 0xb1, 0xb3, 0xd0, 0xd1, 0xf0
+# 2.2: bytes of a number, by kind
+WIDTHS = {NULL: 0, 0x50: 1, 0x51: 1, BOOLEAN: 1, 0x60: 2, 0x61: 2, UINT: 4, INT: 4, 0x72: 4, CHAR: 4, 0x74: 4,
+          ULONG: 8, LONG: 8, 0x82: 8, 0x83: 8, 0x84: 8}
+BLOBS = (0x94, 0x98)                                                # number 0, 16 bytes of text
+TEXTS = {0xb0: 0xa0, STRING: 0xa1, SYMBOL: 0xa3}                    # with the code of the short form
+COMPOUNDS = {LIST: 0xc0, MAP: 0xc1, ARRAY: 0xe0}
+KINDS = {DESCRIBED, *WIDTHS, *BLOBS, *TEXTS, *COMPOUNDS}
+ELEMENTS = KINDS - {NULL, LIST, MAP, ARRAY, DESCRIBED}              # 2.6
+
+# 4.6: the bytes that may stand first, and those that may then stand second; all further ones are 80 to bf
+SEQUENCES = [
+    (0x00, 0x7f, None, None, 1), (0xc2, 0xdf, 0x80, 0xbf, 2), (0xe0, 0xe0, 0xa0, 0xbf, 3),
+    (0xe1, 0xec, 0x80, 0xbf, 3), (0xed, 0xed, 0x80, 0x9f, 3), (0xee, 0xef, 0x80, 0xbf, 3),
+    (0xf0, 0xf0, 0x90, 0xbf, 4), (0xf1, 0xf3, 0x80, 0xbf, 4), (0xf4, 0xf4, 0x80, 0x8f, 4)]
+
+
+class Refused(Exception):
+    """A refusal: its number, and its place."""
+
+
+def sequence(text, at):
+    """The length of the sequence that begins there, or 0."""
+    for first, last, low, high, length in SEQUENCES:
+        if first <= text[at] <= last:
+            rest = text[at + 1:at + length]
+            good = len(rest) == length - 1 and all(0x80 <= b <= 0xbf for b in rest[1:])
+            return length if good and (not rest or low <= rest[0] <= high) else 0
+    return 0
+
+
+def is_utf8(text):
+    at = 0
+    while at < len(text):
+        step = sequence(text, at)
+        if step == 0:
+            return False
+        at += step
+    return True
+
+
+def number_allowed(kind, number):
+    """2.3 and 2.7."""
+    if kind == DESCRIBED:
+        return number == 2
+    if kind in BLOBS:
+        return number == 0
+    if kind in WIDTHS:
+        surrogate = kind == CHAR and 0xd800 <= number <= 0xdfff
+        most = {BOOLEAN: 1, CHAR: 0x10ffff}.get(kind, 256 ** WIDTHS[kind] - 1)
+        return number <= most and not surrogate
+    return number <= MOST and (kind != MAP or number % 2 == 0)
+
+
+def text_allowed(kind, text):
+    """2.4."""
+    if kind == STRING:
+        return is_utf8(text)
+    return kind != SYMBOL or all(b < 0x80 for b in text)
+
+
+class Table:
+    """A table that is being taken apart, row by row, and written."""
+
+    def __init__(self, words, text):
+        self.words, self.text, self.row, self.used = words, text, 0, 0
+
+    def take(self, level, elements):
+        """The next row's kind, number and text. `elements` is None outside arrays, else the kinds allowed there (5.2)."""
+        place = self.row
+        if 2 * place == len(self.words):
+            raise Refused(1, place)
+        kind, number = self.words[2 * place:2 * place + 2]
+        if kind not in KINDS:
+            raise Refused(2, place)
+        if level > LEVELS:
+            raise Refused(3, place)
+        if elements is not None and kind not in elements:
+            raise Refused(4, place)
+        if not number_allowed(kind, number):
+            raise Refused(5, place)
+        length = 16 if kind in BLOBS else number if kind in TEXTS else 0
+        text = self.text[self.used:self.used + length]
+        if len(text) < length or not text_allowed(kind, text):
+            raise Refused(6, place)
+        self.row, self.used = place + 1, self.used + length
+        return kind, number, text
+
+    def value(self, level):
+        """The bytes of the next value (3)."""
+        kind, number, text = self.take(level, None)
+        if kind == DESCRIBED:
+            return b'\0' + self.value(level + 1) + self.value(level + 1)
+        if kind in (LIST, MAP):
+            return enclosed(kind, number, b''.join([self.value(level + 1) for _ in range(number)]))
+        if kind == ARRAY:
+            return enclosed(kind, number, self.elements(level + 1, number))
+        if kind in TEXTS:
+            short = number <= 254
+            return bytes([TEXTS[kind] if short else kind]) + number.to_bytes(1 if short else 4, 'big') + text
+        return written_number(kind, number) + text
+
+    def elements(self, level, count):
+        """An array's body: the element code, then payloads of full width (3.6)."""
+        body, allowed = [], ELEMENTS
+        for _ in range(count):
+            kind, number, text = self.take(level, allowed)
+            allowed = {kind}
+            width = 4 if kind in TEXTS else WIDTHS.get(kind, 0)
+            body.append(number.to_bytes(width, 'big') + text)
+        return bytes([kind]) + b''.join(body) if count else b''
+
+
+def written_number(kind, number):
+    """3.2 and 3.3: a number outside arrays, in the shortest form of its kind."""
+    width = WIDTHS.get(kind, 0)
+    if kind == BOOLEAN:
+        return b'\x41' if number else b'\x42'
+    if kind in (UINT, ULONG) and number == 0:
+        return b'\x43' if kind == UINT else b'\x44'
+    if kind in (UINT, ULONG) and number <= 255:
+        return bytes([0x52 if kind == UINT else 0x53, number])
+    if kind in (INT, LONG):
+        signed = number - 256 ** width if number >= 256 ** width // 2 else number
+        if -128 <= signed <= 127:
+            return bytes([0x54 if kind == INT else 0x55, signed % 256])
+    return bytes([kind]) + number.to_bytes(width, 'big')
+
+
+def enclosed(kind, count, body):
+    """3.5 and 3.6: size, count and body, by the body's length."""
+    if kind == LIST and count == 0:
+        return b'\x45'
+    if len(body) <= 254:
+        return bytes([COMPOUNDS[kind], len(body) + 1, count]) + body
+    return bytes([kind]) + (len(body) + 4).to_bytes(4, 'big') + count.to_bytes(4, 'big') + body
+
+
+def encode(words, text):
+    """The bytes of a table, or a refusal (5.2)."""
+    if len(words) % 2 == 1:
+        raise Refused(1, 0)
+    table = Table(words, text)
+    bs = table.value(1)
+    if 2 * table.row < len(words):
+        raise Refused(1, table.row)
+    if table.used < len(text):
+        raise Refused(6, table.row)
+    if len(bs) > MOST:
+        raise Refused(7, 0)
+    return bs
+
+
+def size(words, text):
+    """Sizing's answer, as a case has it (6.1)."""
+    try:
+        return f'={len(encode(words, text))}'
+    except Refused as r:
+        return refusal_field(*r.args)
+
+
+def write(words, text, room):
+    """Writing's answer, as a case has it (6.2)."""
+    try:
+        bs = encode(words, text)
+        if len(bs) > room:
+            raise Refused(8, 0)
+        return '=' + bytes_field(bs)
+    except Refused as r:
+        return refusal_field(*r.args)
+
+
+def agrees(line, sizing):
+    fields = line.split(' ')
+    words, text, answer = words_of(fields[0]), bytes_of(fields[1]), fields[-1]
+    if sizing:
+        return size(words, text) == answer
+    given = '=' + bytes_field(bytes_of(answer[1:])) if answer[0] == '=' else answer
+    return write(words, text, int(fields[2])) == given
+
+
+def main():
+    differ = 0
+    for path in sys.argv[1:]:
+        name = os.path.basename(path)
+        wrong = [(n, line) for n, line in cases_in(path) if not agrees(line, 'size' in name)]
+        for number, line in wrong:
+            print(f'{name} line {number} differs: {line[:200]}')
+        print(f'{name}: {sum(1 for _ in cases_in(path)) - len(wrong)} cases agree, {len(wrong)} differ')
+        differ += len(wrong)
+    sys.exit(1 if differ else 0)
+
+
+if __name__ == '__main__':
+    main()

@@ -1,0 +1,255 @@
+#!/usr/bin/env python3
+"""own.py: writes data/own_write.txt and data/own_write_big.txt, cases for every refusal and limit of the writer.
+
+The tables are chosen here, by docs/FORMAT.md, sections 2, 3 and 5, and by one limit of the code; the answers are those of model.py.
+"""
+import os
+import sys
+
+sys.dont_write_bytecode = True
+from form import bytes_field, words_field, words_of
+from model import BLOBS, COMPOUNDS, ELEMENTS, KINDS, MOST, NULL, Refused, TEXTS, WIDTHS, encode, write
+
+REFUSED_ROOM = 16       # bytes of output for a table that is refused
+EDGES = sorted(n + d for n in (1, 2 ** 7, 2 ** 8, 2 ** 15, 2 ** 16, 2 ** 31, 2 ** 32, 2 ** 63) for d in (-1, 0)) + [2 ** 64 - 1]
+PLAIN = sorted(ELEMENTS)
+PARENTS = {0x00: '00:2,40:0,40:0', 0xd0: 'd0:1,40:0', 0xd1: 'd1:2,40:0,40:0', 0xf0: 'f0:1,50:0'}
+
+
+def case(rows, text=b'', room=None):
+    """A line, with an output of exactly the size where no other room is asked."""
+    words = words_of(rows)
+    if room is None:
+        try:
+            room = len(encode(words, text))
+        except Refused:
+            room = REFUSED_ROOM
+    return ' '.join([words_field(words), bytes_field(text), str(room), write(words, text, room)])
+
+
+def good(kind):
+    """A value of a kind: its rows and its text."""
+    if kind in PARENTS:
+        return PARENTS[kind], b''
+    if kind in BLOBS:
+        return f'{kind:02x}:0', bytes(range(16))
+    if kind in TEXTS:
+        return f'{kind:02x}:3', b'abc'
+    return f'{kind:02x}:{0 if kind == NULL else 1}', b''
+
+
+def parent(kind, count, child):
+    return f'{kind}:{count},{child}*{count}' if count else f'{kind}:0'
+
+
+def worked():
+    """FORMAT.md, section 10."""
+    yield from map(case, ['70:255', '70:256', '71:4294967168', '71:4294967167', 'd0:1,40:0', 'd1:0', 'f0:0', 'f0:2,70:0,70:1',
+                          '00:2,80:36,d0:0', 'd0:1*31,d0:0', 'd0:1*32,d0:0'])
+    yield case('d1:2,b3:1,70:2', b'v')
+    yield case('f0:1,b1:5', 'Ø1.2'.encode())
+    yield case('f0:1,b0:249', b'a' * 249)
+    yield case('f0:1,b0:250', b'a' * 250)
+
+
+def rows_amiss():
+    yield from map(case, ['-', '+40', '40:0,+40', '+ff', 'd0:2,40:0,+40'])
+    yield from map(case, ['d0:1', 'd1:2,40:0', 'f0:1', 'f0:2,50:1', '00:2', '00:2,40:0', 'd0:2,d0:1'])
+    yield from map(case, ['40:0,40:0', '40:0,ff:0', 'd0:0,40:0', 'd0:1,40:0,40:0', 'f0:0,50:1', 'f0:1,50:1,50:1', '00:2,40:0*3', 'd1:0,40:0*2'])
+
+
+def kinds_unknown():
+    for kind in range(256):
+        if kind not in KINDS:
+            yield case(f'{kind:02x}:0')
+    for kind in sorted(KINDS):
+        yield case(f'{kind + 256:02x}:0')
+    yield from map(case, ['100000040:0', '8000000000000040:0', 'ffffffffffffffff:0'])
+    yield from map(case, ['d0:2,40:0,ff:0', 'd1:2,ff:0,40:0', 'f0:1,ff:0', 'f0:2,50:0,ff:0', '00:2,ff:0,40:0', '00:2,80:1,ff:0'])
+
+
+def levels():
+    for depth in (30, 31, 32):
+        for inner in ['40:0', '70:256', 'b1:0', 'd0:0', 'd1:0', 'f0:0', 'd0:1', 'f0:1,50:7', 'f0:1,40:0', 'f0:1', 'f0:1,ff:0', '00:2,40:0,40:0', 'ff:0', '40:1']:
+            yield case(f'd0:1*{depth},{inner}')
+        yield case(f'd0:1*{depth}')
+        yield case(f'd0:2,40:0,d0:1*{depth - 1},40:0')
+        yield case(f'00:2*{depth},40:0*{depth + 1}')
+        yield case('00:2,40:0,' * depth + '40:0')
+        yield case(f'd1:2*{depth},40:0*{depth + 1}')
+        yield case('d1:2,40:0,' * depth + '40:0')
+        yield case(f'd0:1*{depth},b1:1', b'\xff')
+
+
+def elements_unfit():
+    for kind in sorted(KINDS):
+        rows, text = good(kind)
+        yield case(f'f0:1,{rows}', text)
+        yield case(f'f0:2,50:1,{rows}', text)
+        yield case(f'f0:2,{rows},50:1', text)
+    for first, second in zip(PLAIN, PLAIN[1:]):
+        (one, text), (other, more) = good(first), good(second)
+        yield case(f'f0:2,{one},{other}', text + more)
+        yield case(f'f0:3,{other}*2,{one}', more * 2 + text)
+    yield from map(case, ['f0:1,d0:0', 'f0:1,d1:0', 'f0:1,f0:0', 'f0:2,40:0*2', 'd0:2,f0:1,50:1,60:1', 'f0:1,00:3', 'f0:1,d1:1'])
+
+
+def elements():
+    for kind in PLAIN:
+        rows, text = good(kind)
+        for count in (1, 2, 3):
+            yield case(parent('f0', count, rows), text * count)
+    for kind in sorted(ELEMENTS & WIDTHS.keys()):
+        for number in EDGES:
+            yield case(f'f0:2,{kind:02x}:1,{kind:02x}:{number}')
+    for kind in TEXTS:
+        for length in (0, 1, 254, 255, 256):
+            yield case(f'f0:2,{kind:02x}:{length},{kind:02x}:1', b'z' * (length + 1))
+
+
+def numbers():
+    for kind, width in sorted(WIDTHS.items()):
+        negative = {256 ** width - n for n in (1, 127, 128, 129)} if width else set()
+        for number in sorted(negative | set(EDGES)):
+            yield case(f'{kind:02x}:{number}')
+    for number in (0xd7ff, 0xd800, 0xdbff, 0xdc00, 0xdfff, 0xe000, 0xffff, 0x10000, 0x10ffff, 0x110000):
+        yield case(f'73:{number}')
+        yield case(f'f0:1,73:{number}')
+    yield from map(case, ['56:2', 'f0:1,56:2', '94:1', '98:1'])
+    yield from map(case, ['00:0', '00:1', '00:3', '00:0,40:0*2', '00:3,40:0*3', 'd1:1', 'd1:1,40:0', 'd1:3,40:0*3'])
+    for kind in [*TEXTS, *COMPOUNDS]:
+        for number in (MOST - 1, MOST, MOST + 1, MOST + 2, 2 ** 32, 2 ** 63, 2 ** 64 - 1):
+            yield case(f'{kind:02x}:{number}')
+
+
+def texts():
+    for kind in TEXTS:
+        for length in (0, 1, 2, 253, 254, 255, 256, 257):
+            for given in sorted({max(length - 1, 0), length, length + 1}):
+                yield case(f'{kind:02x}:{length}', b'a' * given)
+    for kind in BLOBS:
+        for given in (0, 15, 16, 17):
+            yield case(f'{kind:02x}:0', (bytes(range(240, 256)) + b'z')[:given])
+    for length in (252, 253, 254, 255, 256):
+        for letter in ('\u00d8', '\u20ac', '\U0001f600'):
+            bs = letter.encode()
+            yield case(f'b1:{length}', bs * (length // len(bs)) + b'a' * (length % len(bs)))
+    yield case('40:0', b'a')
+    for text in (b'a', b'ab', b'abc'):
+        yield case('d0:2,b1:1,b3:1', text)
+
+
+# Each edge of the table of 4.6, and sequences that are cut off.
+SEQUENCES = '''00 7f 80 bf c0 c1 c2 df ff fe c080 c0af c180 c1bf c27f c280 c2bf c2c0 df7f df80 dfbf dfc0 e080 e09f e09f80 e09fbf
+e0a0 e0a07f e0a080 e0a0bf e0a0c0 e0bfbf e0c080 e17f80 e18080 e180 e1bfbf e1c080 ec8080 ecbfbf ecbfc0 ed7f80 ed8080 ed807f ed9fbf
+ed9fc0 eda080 edbfbf ee7f80 ee8080 eebfbf ef8080 efbfbf efbfbd efbfc0 efbf f07f8080 f0808080 f08f8080 f08fbfbf f0908080 f0907f80
+f090807f f09080c0 f090c080 f09080 f090 f0 f0bfbfbf f0c08080 f17f8080 f1808080 f1bfbfbf f1c08080 f3808080 f3bfbfbf f47f8080
+f4808080 f48fbfbf f4908080 f48f7fbf f48fbf7f f48fbfc0 f4bfbfbf f48fbf f48f f5808080 f6808080 f7bfbfbf f888808080 fc8480808080'''
+
+
+def sequences():
+    for text in map(bytes.fromhex, SEQUENCES.split()):
+        for whole in (text, b'x' + text + b'y', b'12345678' + text):
+            yield case(f'b1:{len(whole)}', whole)
+        yield case(f'f0:2,b1:1,b1:{len(text)}', b'a' + text)
+    for text in map(bytes.fromhex, ['00', '7f', '80', 'ff', 'c3', 'c398']):
+        yield case(f'b3:{len(text)}', text)
+        yield case(f'b0:{len(text)}', text)
+        yield case(f'f0:1,b3:{len(text)}', text)
+    for at in (0, 1, 7, 8, 9, 30):
+        for byte in (b'\x7f', b'\x80'):
+            yield case('b3:31', b's' * at + byte + b's' * (30 - at))
+    # a sequence over two rows is a fault of the first
+    yield case('d0:2,b1:1,b1:1', b'\xc3\x98')
+    yield case('d0:2,b1:2,b1:2', b'a\xc3\x98b')
+    yield case('d0:2,b0:1,b1:1', b'\xc3\x98')
+
+
+def bodies():
+    for count in (0, 1, 2, 127, 128, 253, 254, 255, 256, 257):
+        for kind, child in (('d0', '40:0'), ('d1', '40:0'), ('f0', '50:7'), ('f0', '56:1')):
+            yield case(parent(kind, count, child))
+    for length in range(247, 258):
+        for rows in ('d0:1', 'd1:2,40:0', 'f0:1', 'd0:1*2', 'd0:2,d0:1,40:0'):
+            yield case(f'{rows},b0:{length}', b'q' * length)
+    for count in (31, 32, 63, 64):
+        yield case(parent('f0', count, '80:1'))
+        yield case(parent('f0', count, '70:1'))
+    # the writer keeps the sizes of up to 64 compounds beside the output
+    for count in (1, 62, 63, 64, 65, 66):
+        yield case(f'd0:{count}' + ',d0:1,40:0' * count)
+        yield case(f'd0:{count}' + ',f0:1,50:1' * count, b'', 1000)
+    yield case('d1:4,40:0,f0:2,50:1,50:2,b3:1,d0:0', b'k')
+
+
+def described():
+    yield from map(case, ['00:2,80:36,d0:0', '00:2,40:0,40:0', '00:2,00:2,40:0*3', '00:2,40:0,00:2,40:0*2', 'd0:1,00:2,80:255,70:256',
+                          'd1:2,00:2,80:1,40:0,56:1', '00:2,f0:1,50:1,f0:0', '00:2,d1:0,d0:1,d0:0'])
+    yield case('00:2,b3:4,d0:1,b1:1', b'nameX')
+
+
+def order():
+    """What fails twice: two checks of one row, of two rows, or of a row and the whole table."""
+    yield from map(case, ['ff:0,+40', '40:1,+40', 'd0:2,ff:0', 'd0:2,40:1', 'd0:2,40:0*2,40:1', '40:1,40:0', '40:0,b1:5', 'f0:1,ff:2',
+                          'f0:2,50:1,60:65536', 'f0:2,50:256,60:1'])
+    for rows, text in [('f0:2,50:1,b1:1', b'\xff'), ('d0:2,b1:1,ff:0', b'\xff'), ('d0:2,b1:9,ff:0', b'a'), ('d0:2,ff:0,b1:1', b'\xff'),
+                       (f'b1:{MOST + 1}', b'a'), ('b1:1,40:0', b'\xff'), ('b1:1,40:0', b'ab'), ('40:0,40:0', b'a'), ('b1:1', b'a\xff')]:
+        yield case(rows, text)
+    for room in (0, 1):
+        for rows, text in [('40:1', b''), ('b1:1', b'\xff'), ('b1:1', b'ab'), ('70:256,40:0', b'')]:
+            yield case(rows, text, room)
+
+
+def rooms():
+    tables = [good(kind) for kind in sorted(KINDS)] + [
+        ('70:256', b''), ('b1:0', b''), ('b0:255', b'r' * 255), ('d0:0', b''), ('d1:0', b''), ('f0:0', b''), ('d0:255,40:0*255', b''),
+        ('f0:254,50:9*254', b''), ('d0:1*31,d0:0', b'')]
+    for rows, text in tables:
+        size = len(encode(words_of(rows), text))
+        for room in sorted({0, size - 1, size, size + 1, size + 40}):
+            yield case(rows, text, room)
+
+
+def too_long():
+    for kind in TEXTS:
+        for length in (MOST - 5, MOST - 4, MOST):
+            for room in (MOST - 1, MOST, MOST + 10):
+                yield case(f'{kind:02x}:{length}', b'a' * length, room)
+    for count in (MOST - 10, MOST - 9, MOST - 8, MOST):
+        yield case(parent('d0', count, '40:0'), b'', MOST)
+        yield case(parent('f0', count, '50:7'), b'', MOST)
+    for count in (MOST - 10, MOST - 8):
+        yield case(parent('d1', count, '40:0'), b'', MOST)
+    # all else comes before 7, and 7 before 8
+    two = 'd0:2,b0:700000,b1:700000'
+    yield case(two, b'a' * 1400000, 0)
+    yield case(two, b'a' * 1399999 + b'\xff', MOST)
+    yield case(two, b'a' * 1399999, MOST)
+    yield case(two, b'a' * 1400001, MOST)
+    yield case(two + ',40:0', b'a' * 1400000, MOST)
+    yield case('d0:3,b0:700000*2,ff:0', b'a' * 1400000, MOST)
+    yield case('d0:3,b0:700000*2,40:1', b'a' * 1400000, MOST)
+
+
+SMALL = [
+    ('worked examples', worked), ('1: rows amiss', rows_amiss), ('2: kinds unknown', kinds_unknown), ('3: levels', levels),
+    ('4: elements unfit', elements_unfit), ('arrays of every plain kind', elements), ('5: numbers and their short forms', numbers),
+    ('6: texts and their lengths', texts), ('6: sequences of UTF-8', sequences), ('bodies and counts', bodies),
+    ('described values', described), ('the order of refusals', order), ('8: rooms', rooms)]
+BIG = [('7: too long', too_long)]
+
+
+def store(name, sections):
+    seen = set()
+    with open(os.path.join(os.path.dirname(os.path.abspath(__file__)), 'data', name), 'w', encoding='utf-8') as file:
+        for heading, cases in sections:
+            file.write(f'# {heading}\n')
+            for line in cases():
+                if line not in seen:
+                    file.write(line + '\n')
+                seen.add(line)
+    print(f'{name}: {len(seen)} cases')
+
+
+store('own_write.txt', SMALL)
+store('own_write_big.txt', BIG)

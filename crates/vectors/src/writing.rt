@@ -1,0 +1,163 @@
+// Cases of sizing and writing: a table, and what is due of the writer.
+ghost use Prim.Native.Nat.{_≤_};
+ghost use Rattle.io.specs.Counts.{Counts};
+use crate::form;
+use crate::form::Answer;
+use crate::form::Found;
+use standard::refusal;
+use writer::Written;
+
+// No case has more words.
+const WORDS: usize = 1024;
+
+// How much of the buffers a table fills, and the place behind it.
+struct Table {
+    words: usize,
+    text: usize,
+    at: usize,
+}
+
+// A table: its words, and its text.
+fn read_table(line: &[u8], words: &mut [u64], text: &mut [u8]) -> Table
+    ensures { λ r. ⌜ Counts (r .words) (now (words .exit)) × Counts (r .text) (now (text .exit)) ⌝ }
+{
+    let w = form::words(line, 0, words);
+    let t = form::bytes(line, form::after(line, w.at, b' '), text);
+    Table {
+        words: w.count,
+        text: t.count,
+        at: form::after(line, t.at, b' '),
+    }
+}
+
+// What an output holds before it is lent. Neighbours differ, so that a byte in the wrong place shows.
+fn fresh(out: &mut [u8]) {
+    let mut i: usize = 0;
+    while i < out.len() {
+        out[i] = (i % 251) as u8;
+        i += 1;
+    }
+}
+
+// Whether an answer is the one that is due, with that length where it is a success.
+fn is_due(given: Written, due: Answer, length: u64) -> bool {
+    match given {
+        Written::Length(n) => due.number == 0 && n as u64 == length,
+        Written::Refused(r) => r.number as u64 == due.number && r.place as u64 == due.place,
+    }
+}
+
+// Whether sizing's answer goes with what is due of writing. It is the same; but where the output is too short, sizing gives a length beyond it.
+fn goes_with(given: Written, due: Answer, length: u64, room: usize) -> bool {
+    if due.number != refusal::OUTPUT_SHORT as u64 {
+        return is_due(given, due, length);
+    }
+    match given {
+        Written::Length(n) => room < n,
+        Written::Refused(_) => false,
+    }
+}
+
+fn one(right: bool) -> u64
+    ensures { λ r. ⌜ r ≤ 1 ⌝ }
+{
+    if right {
+        return 1;
+    }
+    0
+}
+
+// So much of a buffer, or none of it where it has less.
+fn part(room: u64, buffer: &[u8]) -> usize
+    ensures { λ r. ⌜ Counts r (now (buffer .entry)) ⌝ }
+{
+    if (buffer.len() as u64) < room {
+        return 0;
+    }
+    room as usize
+}
+
+// How many answers are right: sizing's. What is due stands at a place of the line.
+fn right_sized(line: &[u8], at: usize, words: &[u64], text: &[u8]) -> u64
+    ensures { λ r. ⌜ r ≤ 1 ⌝ }
+{
+    let due = form::answer_at(line, at);
+    let mut size = Found {
+        value: 0,
+        at: due.at,
+    };
+    if due.number == 0 {
+        size = form::number(line, due.at, 10);
+    }
+    one(size.at == line.len() && is_due(writer::size(words, text), due, size.value))
+}
+
+// How many answers are right: sizing's, and writing's, which has to leave the output as it is wanted, to the last byte.
+fn right_in_both(
+    words: &[u64],
+    text: &[u8],
+    out: &mut [u8],
+    want: &[u8],
+    due: Answer,
+    length: u64,
+) -> u64
+    ensures { λ r. ⌜ r ≤ 2 ⌝ }
+{
+    let size = writer::size(words, text);
+    let given = writer::write(words, text, out);
+    let is_written = is_due(given, due, length) && check::same(out, want);
+    one(goes_with(size, due, length, want.len())) + one(is_written)
+}
+
+// The same, where the length of the output and what is due stand at a place of the line.
+fn right_written(line: &[u8], at: usize, words: &[u64], text: &[u8]) -> u64
+    ensures { λ r. ⌜ r ≤ 2 ⌝ }
+{
+    let mut out = io::buffer();
+    let mut want = io::buffer();
+    fresh(&mut out);
+    fresh(&mut want);
+    let asked = form::number(line, at, 10);
+    let due = form::answer_at(line, form::after(line, asked.at, b' '));
+    let bytes = form::bytes(line, due.at, &mut want);
+    let room = part(asked.value, &out);
+    let same = part(asked.value, &want);
+    if bytes.at != line.len() {
+        return 0;
+    }
+    if room as u64 != asked.value {
+        return 0;
+    }
+    right_in_both(
+        words,
+        text,
+        &mut out[..room],
+        &want[..same],
+        due,
+        bytes.count as u64,
+    )
+}
+
+// `WORDS TEXT ANSWER`, with the size behind a success.
+pub fn size_case(line: &[u8]) -> u64
+    ensures { λ r. ⌜ r ≤ 1 ⌝ }
+{
+    let mut words = [0u64; WORDS];
+    let mut text = io::buffer();
+    let t = read_table(line, &mut words, &mut text);
+    let n = t.words;
+    let m = t.text;
+    right_sized(line, t.at, &words[..n], &text[..m])
+}
+
+// `WORDS TEXT ROOM ANSWER`, with the bytes behind a success.
+pub fn write_case(line: &[u8]) -> u64
+    ensures { λ r. ⌜ r ≤ 2 ⌝ }
+{
+    let mut words = [0u64; WORDS];
+    let mut text = io::buffer();
+    let t = read_table(line, &mut words, &mut text);
+    let n = t.words;
+    let m = t.text;
+    right_written(line, t.at, &words[..n], &text[..m])
+}
