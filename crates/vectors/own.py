@@ -52,6 +52,12 @@ def worked():
     yield case('f0:1,b0:250', b'a' * 250)
 
 
+def example():
+    """The order of examples/order.amqp."""
+    yield case('00:2,b3:19,d0:6,80:4711,83:1763164800000,b3:9,b1:5,f0:3,b1:5*2,b1:2,d1:4,b3:4,70:2,b3:5,70:1',
+               'afsungar:order:listear-shellØ1.2Ø1.2Ø1.3M4leftright'.encode())
+
+
 def rows_amiss():
     yield from map(case, ['-', '+40', '40:0,+40', '+ff', 'd0:2,40:0,+40'])
     yield from map(case, ['d0:1', 'd1:2,40:0', 'f0:1', 'f0:2,50:1', '00:2', '00:2,40:0', 'd0:2,d0:1'])
@@ -232,7 +238,8 @@ def too_long():
 
 
 SMALL = [
-    ('worked examples', worked), ('1: rows amiss', rows_amiss), ('2: kinds unknown', kinds_unknown), ('3: levels', levels),
+    ('worked examples', worked), ('examples/order.amqp', example), ('1: rows amiss', rows_amiss), ('2: kinds unknown', kinds_unknown),
+    ('3: levels', levels),
     ('4: elements unfit', elements_unfit), ('arrays of every plain kind', elements), ('5: numbers and their short forms', numbers),
     ('6: texts and their lengths', texts), ('6: sequences of UTF-8', sequences), ('bodies and counts', bodies),
     ('described values', described), ('the order of refusals', order), ('8: rooms', rooms)]

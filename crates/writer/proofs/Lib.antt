@@ -10,3 +10,4 @@ pub mod Sizes
 pub mod Turns
 pub mod Whole
 pub mod Writes
+pub mod Unique
