@@ -1,17 +1,17 @@
 -- A value is its head, its text and its body; an element of an array is its number and its text.
-use Prim.Native.Nat.{ℕ, zero, suc, _+_, _*_, _-_, _%_, _^_, _≤_, _<_}
-use mathlib.Core.Path.{_≡_, refl, sym, ap, _∙_}
-use mathlib.Core.List.{List, [], _∷_, _++_, append-assoc, append-nil}
+use Prim.Native.Nat.{ℕ, _+_, _-_, _^_, _≤_, _<_}
+use mathlib.Core.Path.{_≡_, refl, ap, _∙_}
+use mathlib.Core.List.{List, [], _∷_, _++_, append-nil}
 use mathlib.Core.Bool.{Bool, true, false, not, _||_}
 use native.Mathlib.Omega.{arith}
 use lib.Dec.{T, eqb, leb, ltb, eqb→eq, ltb→lt, leb→le, lit≤}
 use lib.ListN.{length, length-append}
 use Rattle.standard.specs.Choose.{if}
 use Rattle.standard.specs.Bytes.{be, unbe, spell}
-use Rattle.standard.specs.Tree.{Tree, node, Trees, none, more, count}
+use Rattle.standard.specs.Tree.{Trees, none, count}
 use Rattle.standard.specs.Kinds.{Short, never, flag, unsigned, signed, kinds, Style, foreign, numbered, blob, lettered, listed, mapped, arrayed, describing, styleOf, isKind, plain}
 use Rattle.standard.specs.Table.{letters, children}
-use Rattle.standard.specs.Encode.{fitsByte, shortEnd, shortest, enclosed, compact, wide, headed, encode, encode*, item, payloads}
+use Rattle.standard.specs.Encode.{fitsByte, shortEnd, shortest, enclosed, compact, wide, headed, encode*, payloads}
 use Rattle.standard.specs.Laws.Numbers.{length-be, unbe-be}
 use Rattle.standard.specs.Laws.Written.{no-children, no-text}
 use Rattle.writer.specs.Heads.{enclosure, head, itemWidth, bodyOf, headIs}

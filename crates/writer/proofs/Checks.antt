@@ -6,9 +6,9 @@ use mathlib.Core.Bool.{Bool, true, false, not}
 use native.Mathlib.Numerals.{add-one, add-two}
 use native.Mathlib.Omega.{arith}
 use borrow.Author.Tests.{le-leb, lt-leb}
-use lib.ListN.{length, take, drop, getD, length-drop}
+use lib.ListN.{length, take, drop, getD}
 use lib.Seq.{drop-cons}
-use Rattle.standard.specs.Answer.{Answer, got, refuse, at, rowsAmiss, kindUnknown, tooDeep, elementUnfit, numberOutside, textAmiss}
+use Rattle.standard.specs.Answer.{got, refuse, at, rowsAmiss, kindUnknown, tooDeep, elementUnfit, numberOutside, textAmiss}
 use Rattle.standard.specs.Kinds.{Style, styleOf, isKind, clean}
 use Rattle.standard.specs.Table.{Spot, allowed, ranged, letters}
 use Rattle.writer.specs.Rows.{check}

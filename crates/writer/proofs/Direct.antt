@@ -11,10 +11,9 @@ use lib.ListN.{length, take, drop, set, length-append}
 use lib.Seq.{sets}
 use Rattle.standard.specs.Choose.{if, lookup}
 use Rattle.standard.specs.Bytes.{be, unbe}
-use Rattle.standard.specs.Kinds.{unsigned, Style, foreign, numbered, blob, lettered, listed, mapped, arrayed, describing, Kind, kind, kinds, styleOf}
+use Rattle.standard.specs.Kinds.{unsigned, Style, foreign, numbered, blob, lettered, listed, mapped, arrayed, describing, kind, kinds, styleOf}
 use Rattle.standard.specs.Table.{letters}
 use Rattle.standard.specs.Encode.{shortest}
-use Rattle.standard.specs.Laws.Answers.{if-case}
 use Rattle.standard.specs.Laws.Numbers.{length-be}
 use Rattle.standard.proofs.Lookup.{Rest}
 use Rattle.writer.specs.Heads.{head}

@@ -1,22 +1,20 @@
 -- The rows, the text and the marks of a value come, row by row, to the value's bytes, whatever rows stand behind.
-use Prim.Native.Nat.{ℕ, zero, suc, _+_, _*_, _%_, _^_, _≤_, _<_}
-use mathlib.Core.Path.{_≡_, refl, sym, ap, _∙_, subst}
+use Prim.Native.Nat.{ℕ, zero, suc, _+_, _^_, _<_}
+use mathlib.Core.Path.{_≡_, refl, ap, _∙_, subst}
 use mathlib.Core.List.{List, [], _∷_, _++_, append-assoc, append-nil}
-use mathlib.Core.Bool.{Bool, true, false}
 use native.Mathlib.Omega.{arith}
 use native.Mathlib.Nat.{mod-eq-of-lt}
-use lib.Dec.{T, eqb, eqb→eq}
-use lib.ListN.{length, take, drop, length-append}
+use lib.Dec.{T}
+use lib.ListN.{length, length-append}
 use lib.Seq.{take-at, drop-at}
-use Rattle.standard.specs.Choose.{if}
-use Rattle.standard.specs.Bytes.{be, unbe}
+use Rattle.standard.specs.Bytes.{be}
 use Rattle.standard.specs.Tree.{Tree, node, Trees, none, more, root, count, rows, rows*, text, text*}
 use Rattle.standard.specs.Kinds.{Style, foreign, numbered, blob, lettered, listed, mapped, arrayed, describing, styleOf, isKind, plain}
-use Rattle.standard.specs.Table.{Spot, any, first, like, allowed, letters, children, firstIn, next, Row, All, Valid}
-use Rattle.standard.specs.Encode.{compact, wide, headed, encode, encode*, item, payloads}
+use Rattle.standard.specs.Table.{Spot, any, first, allowed, letters, children, firstIn, next, Row, All, Valid}
+use Rattle.standard.specs.Encode.{compact, headed, encode, encode*, item, payloads}
 use Rattle.standard.specs.Laws.Numbers.{length-be}
-use Rattle.standard.specs.Laws.Written.{no-children, AllOf, alike, spot-of}
-use Rattle.writer.specs.Heads.{head, itemWidth, bodyOf}
+use Rattle.standard.specs.Laws.Written.{no-children, AllOf, alike}
+use Rattle.writer.specs.Heads.{head, bodyOf}
 use Rattle.writer.specs.Marks.{markWidth, marks, marks*}
 use Rattle.writer.specs.Filling.{elementsOf, elementCode, own, due, markOf, flat, boxed, lettersIn}
 use Rattle.writer.proofs.Bodies.{compact-head, wide-head, marked-head, kind-small}

@@ -1,20 +1,18 @@
 -- The bytes of a number by its kind, and which rows are open.
-use Prim.Native.Nat.{ℕ, zero, suc, _+_, _%_, _^_, _≤_, _<_}
+use Prim.Native.Nat.{ℕ, _+_, _%_, _^_, _≤_, _<_}
 use mathlib.Core.Path.{_≡_, refl, sym, _∙_, subst}
-use mathlib.Core.List.{List, [], _∷_}
-use mathlib.Core.Bool.{Bool, true, false, not, _&&_, _||_}
+use mathlib.Core.List.{[]}
+use mathlib.Core.Bool.{Bool, true, false, _&&_}
 use native.Mathlib.Nat.{pow-le-pow-right}
 use native.Mathlib.Omega.{arith}
 use borrow.Author.Tests.{lt-ltb, le-ltb, le-leb, lt-leb, eq-eqb, ne-eqb}
-use lib.Dec.{T, eqb, eqb→eq, leb, ltb, lit<}
+use lib.Dec.{T, eqb, leb, ltb, lit<}
 use lib.ListN.{length}
 use Rattle.standard.specs.Choose.{if}
-use Rattle.standard.specs.Bytes.{be}
 use Rattle.standard.specs.Kinds.{Short, never, flag, unsigned, signed, Style, foreign, numbered, blob, lettered, listed, mapped, arrayed, describing, kinds, styleOf, fair}
 use Rattle.standard.specs.Table.{most, ranged}
 use Rattle.standard.specs.Encode.{fitsByte, shortest}
 use Rattle.standard.specs.Laws.Numbers.{length-be}
-use Rattle.standard.specs.Laws.Answers.{T-true, and-left, and-right, if-case}
 use Rattle.standard.proofs.Lookup.{Rest}
 use Rattle.writer.specs.Heads.{head}
 use Rattle.writer.proofs.Bodies.{head-short}

@@ -1,23 +1,23 @@
 -- Sizing, one value after another: what is found of the first value and of those behind it comes to what is found of all.
 use Prim.Native.Nat.{ℕ, zero, suc, _+_, _*_, _-_, _/_, _%_, _^_, _≤_, _<_}
-use mathlib.Core.Path.{_≡_, refl, sym, ap, _∙_, subst}
-use mathlib.Core.List.{List, [], _∷_, _++_, append-assoc, append-nil}
+use mathlib.Core.Path.{_≡_, refl, sym, ap, _∙_}
+use mathlib.Core.List.{List, [], _∷_, _++_}
 use mathlib.Core.Bool.{Bool, true, false}
 use native.Mathlib.Omega.{arith}
 use native.Mathlib.Nat.{mod-eq-of-lt}
 use borrow.Author.Tests.{ne-eqb}
 use lib.Dec.{T, eqb, eqb→eq, leb, leb→le}
 use lib.ListN.{length, take, drop, length-append, length-drop}
-use lib.Seq.{drop-drop, drop-at, length-take-le, sets, length-sets}
+use lib.Seq.{drop-drop, drop-at, sets}
 use Rattle.standard.specs.Choose.{if}
 use Rattle.standard.specs.Answer.{Answer, got, refuse, Place, at, _>>=_, _>>_, need, kindUnknown, tooDeep, elementUnfit, numberOutside, textAmiss}
 use Rattle.standard.specs.Bytes.{be}
 use Rattle.standard.specs.Tree.{Tree, node, Trees, none, more, root, count, rows, rows*, text, text*, tall, tall*}
 use Rattle.standard.specs.Kinds.{Style, foreign, numbered, blob, lettered, listed, mapped, arrayed, describing, styleOf, isKind, plain, clean}
 use Rattle.standard.specs.Table.{Spot, any, first, like, allowed, ranged, letters, children, firstIn, next, Row, All, Valid, letter, several, row, tree}
-use Rattle.standard.specs.Encode.{encode, encode*, item, payloads, headed, compact, wide}
+use Rattle.standard.specs.Encode.{encode, encode*, item, payloads, headed}
 use Rattle.standard.specs.Laws.Answers.{Holds, yes′, no′, on, need-holds, out, if-case}
-use Rattle.standard.specs.Laws.Bounds.{rows-length, rows*-length}
+use Rattle.standard.specs.Laws.Bounds.{rows-length}
 use Rattle.standard.specs.Laws.Tables.{several-sound, tree-sound}
 use Rattle.writer.specs.Heads.{head, itemWidth, bodyOf}
 use Rattle.writer.specs.Marks.{markWidth, marks, marks*}

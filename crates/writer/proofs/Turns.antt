@@ -2,17 +2,17 @@
 use Prim.Native.Nat.{ℕ, zero, suc, _+_, _*_, _-_, _%_, _^_, _≤_, _<_}
 use mathlib.Core.Path.{_≡_, refl, sym, ap, _∙_, subst}
 use mathlib.Core.List.{List, [], _∷_, _++_}
-use mathlib.Core.Bool.{Bool, true, false, not, _&&_}
+use mathlib.Core.Bool.{Bool, true, false, not}
 use native.Mathlib.Omega.{arith}
 use borrow.Author.Tests.{lt-ltb, ne-eqb}
-use lib.Dec.{T, eqb, eqb→eq, leb, leb→le, ltb, ltb→lt}
-use lib.ListN.{length, take, drop, length-append, length-drop}
+use lib.Dec.{T, eqb, eqb→eq, ltb, ltb→lt}
+use lib.ListN.{length, drop, length-append, length-drop}
 use lib.Seq.{sets}
 use Rattle.standard.specs.Choose.{if}
 use Rattle.standard.specs.Answer.{Answer, got, refuse, at}
 use Rattle.standard.specs.Bytes.{be}
 use Rattle.standard.specs.Text.{flawless, isFlawless, utf8, ascii, faultDue, faultIn}
-use Rattle.standard.specs.Tree.{node, Trees, none, more, root}
+use Rattle.standard.specs.Tree.{node, Trees, none, more}
 use Rattle.standard.specs.Kinds.{Style, foreign, numbered, blob, lettered, listed, mapped, arrayed, describing, kinds, styleOf, isKind, plain, flaw, clean}
 use Rattle.standard.specs.Table.{Spot, any, first, like, allowed, ranged, letters, children, firstIn, next, All, Valid, several, tree}
 use Rattle.standard.specs.Encode.{shortEnd, payloads}
@@ -26,7 +26,6 @@ use Rattle.writer.specs.Sizing.{total, totalFrom, Marked, headSize, code
 use Rattle.standard.specs.declared.refusal.Refusal.{Refusal}
 use Rattle.writer.specs.declared.sizing.Sized.{Sized}
 use Rattle.writer.specs.declared.sizing.Sized.the-variants.{Fits, Refused}
-use Rattle.writer.specs.declared.sizing.Taken.{Taken}
 use Rattle.writer.specs.declared.sizing.Taken.the-variants.{Number, Open, Other}
 use Rattle.writer.specs.declared.sizing.Extent.{Extent}
 use Rattle.standard.specs.Laws.Written.{no-children}
@@ -283,9 +282,6 @@ module _ (w x : List ℕ) (l : ℕ) (o : Extent) (n : ℕ) (b : List ℕ) (g : W
 
     open-checked : check l any (o .row) (drop (2 * (o .row)) w) (drop (o .text) x) ≡ got (k, m)
     open-checked = bare-check l (o .row) k m (drop (2 * (o .row)) w) (drop (o .text) x) (open-at .front) (open-at .row .bare)
-
-    pub open-level : 0 < l
-    open-level = open-at .front .level
 
     pub open-no : (f : Refusal) → y ≡ Refused f → tree l any (o .row) (drop (2 * (o .row)) w) (drop (o .text) x) ≡ refuse (f .number) (at (f .place))
     open-no f e = turn-no w x l any o n b g tt h k m open-checked y b₁ open-entered f e

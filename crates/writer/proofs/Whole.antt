@@ -1,16 +1,14 @@
 -- A whole table: from what is found of one value at its beginning to what sizing says of it.
-use Prim.Native.Nat.{ℕ, zero, suc, _+_, _*_, _-_, _/_, _%_, _^_, _≤_, _<_}
+use Prim.Native.Nat.{ℕ, _+_, _*_, _-_, _/_, _%_, _≤_, _<_}
 use mathlib.Core.Path.{_≡_, refl, sym, ap, _∙_}
 use mathlib.Core.List.{List, [], _∷_, _++_, append-nil}
-use mathlib.Core.Bool.{true, false}
 use native.Mathlib.Omega.{arith}
-use borrow.Author.Tests.{le-leb, lt-leb, eq-eqb, ne-eqb}
-use lib.Dec.{leb, eqb}
-use lib.ListN.{length, take, drop, length-append}
-use lib.Seq.{sets, length-sets, sets-eq, take-at}
-use Rattle.standard.specs.Answer.{Answer, got, refuse, Place, at, _>>=_, _>>_, need, rowsAmiss, textAmiss, tooLong}
+use borrow.Author.Tests.{le-leb, lt-leb, ne-eqb}
+use lib.ListN.{length, length-append}
+use lib.Seq.{sets}
+use Rattle.standard.specs.Answer.{Answer, got, refuse, Place, at, _>>=_, _>>_, rowsAmiss, textAmiss, tooLong}
 use Rattle.standard.specs.Tree.{Tree, Trees, none, more, rows, text, tall, tall*, text*}
-use Rattle.standard.specs.Table.{most, Spot, any, several, tree, spent, table}
+use Rattle.standard.specs.Table.{most, any, several, tree, spent, table}
 use Rattle.standard.specs.Encode.{encode, encode*}
 use Rattle.standard.specs.Outcomes.{bytesOf, size}
 use Rattle.standard.specs.Laws.Answers.{out}
@@ -21,7 +19,6 @@ use Rattle.writer.specs.Marks.{marks, marks*}
 use Rattle.writer.specs.Sizing.{sizeIn, total, Marked, values}
 use Rattle.standard.specs.Outcomes.{levelMost}
 use Rattle.writer.specs.Tables.{Fitting}
-use Rattle.writer.specs.declared.sizing.Sized.{Sized}
 use Rattle.writer.specs.declared.sizing.Sized.the-variants.{Fits, Refused}
 use Rattle.writer.specs.declared.sizing.Extent.{Extent}
 use Rattle.writer.proofs.Sums.{Found, found, unfit}

@@ -1,22 +1,21 @@
 -- Writing a table that fits: its marks at the end of the region, then its rows from the front.
-use Prim.Native.Nat.{ℕ, zero, suc, _+_, _*_, _-_, _%_, _^_, _≤_, _<_}
+use Prim.Native.Nat.{ℕ, _+_, _-_, _≤_, _<_}
 use mathlib.Core.Path.{_≡_, refl, sym, ap, _∙_}
-use mathlib.Core.List.{List, [], _∷_, _++_, append-nil, append-assoc}
+use mathlib.Core.List.{List, [], _++_, append-nil}
 use native.Mathlib.Omega.{arith}
 use borrow.Author.Tests.{le-leb, lt-leb}
-use lib.Dec.{leb}
-use lib.ListN.{length, take, drop, length-append, length-take}
+use lib.ListN.{length, take, drop, length-append}
 use lib.Seq.{sets, length-sets, sets-eq, take-at, drop-at, length-take-le}
-use Rattle.standard.specs.Answer.{Answer, got, refuse, Place, at, _>>=_, need, outputShort}
-use Rattle.standard.specs.Tree.{Tree, Trees, none, more, rows, text}
-use Rattle.standard.specs.Table.{most, any, Valid, tree, table}
+use Rattle.standard.specs.Answer.{Answer, got, refuse, Place, at, _>>=_, outputShort}
+use Rattle.standard.specs.Tree.{Tree, none, more, rows, text}
+use Rattle.standard.specs.Table.{any, tree, table}
 use Rattle.standard.specs.Encode.{encode}
 use Rattle.standard.specs.Outcomes.{over, bytesOf, size, Writing, writtenTo, write}
 use Rattle.standard.specs.Laws.Bounds.{rows-length}
 use Rattle.standard.specs.Laws.Tables.{tree-complete, table-holds}
 use Rattle.writer.specs.Marks.{marks}
 use Rattle.writer.specs.Sizing.{Marked, values}
-use Rattle.writer.specs.Filling.{flat, boxed, lettersIn, Fillable}
+use Rattle.writer.specs.Filling.{flat, Fillable}
 use Rattle.standard.specs.Outcomes.{levelMost}
 use Rattle.writer.specs.Tables.{Fitting, Writable, bytesIn, marksIn}
 use Rattle.writer.specs.declared.sizing.Extent.{Extent}

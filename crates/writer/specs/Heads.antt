@@ -3,7 +3,6 @@
 use Prim.Native.Nat.{ℕ, _+_}
 use mathlib.Core.List.{List, [], _∷_, _++_}
 use lib.Dec.{eqb, ltb}
-use lib.ListN.{length}
 use Rattle.standard.specs.Choose.{if}
 use Rattle.standard.specs.Bytes.{be}
 use Rattle.standard.specs.Tree.{Trees}

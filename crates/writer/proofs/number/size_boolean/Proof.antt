@@ -1,5 +1,4 @@
 -- A boolean in range has a code for each value.
-use borrow.Author.Needs.{needs}
 use Rattle.writer.proofs.Sizes.{boolean-yes, boolean-no}
 use native.Mathlib.Omega.{arith}
 use Rattle.writer.proofs.number.size_boolean.Statement.{statement}

@@ -1,5 +1,4 @@
 -- Zero is a code alone, and what fits a byte has a code of its own.
-use borrow.Author.Needs.{needs}
 use Rattle.writer.proofs.Sizes.{unsigned-zero, unsigned-byte, unsigned-wide}
 use native.Mathlib.Omega.{arith}
 use Rattle.writer.proofs.number.size_unsigned.Statement.{statement}

@@ -1,7 +1,7 @@
 -- `size_values` finds of so many values what the definition says. A number and any other row without children is taken in one turn; what is below an open row
 -- is sized by a call of the function itself with one level less. Invariant: what is left from here comes to what was due at the start.
-use Prim.Native.Nat.{ℕ, _+_, _*_, _-_, _<_, _≤_}
-use mathlib.Core.Path.{_≡_, sym, _∙_, subst}
+use Prim.Native.Nat.{ℕ, _+_, _-_, _<_}
+use mathlib.Core.Path.{sym, _∙_, subst}
 use native.Mathlib.Omega.{arith}
 use borrow.Author.Needs.{needs}
 use borrow.Fn.Kinds.{In}

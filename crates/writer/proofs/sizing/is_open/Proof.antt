@@ -1,13 +1,9 @@
 -- Lists, maps and described values hold values with codes of their own; no other kind of the table does.
-use borrow.Author.Needs.{needs}
-use mathlib.Core.Path.{_≡_, refl, sym, _∙_}
-use mathlib.Core.Bool.{true, false}
-use Prim.Native.Nat.{_%_}
 use native.Mathlib.Omega.{arith}
-use borrow.Author.Tests.{eq-eqb, ne-eqb, lt-ltb, le-ltb}
+use borrow.Author.Tests.{lt-ltb}
 use Rattle.standard.specs.Choose.{lookup}
 use Rattle.standard.specs.Kinds.{kinds, styleOf}
-use Rattle.standard.specs.Table.{most, ranged}
+use Rattle.standard.specs.Table.{ranged}
 use Rattle.writer.specs.Sizing.{holder, opens}
 use Rattle.writer.proofs.Sizes.{empty-closed, not-open, map-open, map-closed}
 use Rattle.writer.proofs.sizing.is_open.Statement.{statement}

@@ -1,5 +1,4 @@
 -- Described values have no mark.
-use borrow.Author.Needs.{needs}
 use borrow.Author.Tests.{eq-eqb, ne-eqb}
 use Rattle.writer.proofs.sizing.open_mark.Statement.{statement}
 use Rattle.writer.proofs.sizing.open_mark.Tie as tie

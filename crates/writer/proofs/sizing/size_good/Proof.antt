@@ -1,7 +1,6 @@
 -- A good row: its text, its elements if it is an array, its mark and its head.
 use borrow.Author.Needs.{needs}
-use Prim.Native.Nat.{_+_, _*_, _%_, _≤_, _<_}
-use mathlib.Core.Path.{_≡_, refl, sym, ap, _∙_}
+use Prim.Native.Nat.{_+_, _%_, _<_}
 use native.Mathlib.Omega.{arith}
 use lib.ListN.{length}
 use Rattle.standard.specs.Kinds.{styleOf}

@@ -1,19 +1,13 @@
 -- `size_items` takes one element a turn. Invariant: what is left from here comes to what was due at the start.
 use borrow.Author.Needs.{needs}
-use Prim.Native.Nat.{_+_, _*_, _≤_, _<_}
-use mathlib.Core.Path.{_≡_, sym, ap, _∙_, subst}
+use mathlib.Core.Path.{sym, ap, _∙_, subst}
 use mathlib.Core.List.{[]}
 use native.Mathlib.Omega.{arith}
-use lib.ListN.{drop}
-use Rattle.standard.specs.Answer.{got}
-use Rattle.standard.specs.Kinds.{styleOf}
 use Rattle.standard.specs.Table.{first}
-use Rattle.standard.specs.InCode.{styleIs}
 use Rattle.writer.specs.InCode.{spotIs, checkedIs, Styled}
-use Rattle.writer.specs.Rows.{check}
 use Rattle.writer.specs.Sizing.{Sure, Within, Comes}
-use Rattle.writer.proofs.Sums.{comes-self, comes-on, comes-end, comes-no, check-no}
-use Rattle.writer.proofs.Turns.{Inner, inner-next, item-turn, item-sums}
+use Rattle.writer.proofs.Sums.{comes-self, comes-end, comes-no, check-no}
+use Rattle.writer.proofs.Turns.{Inner, item-turn, item-sums}
 use Rattle.writer.proofs.sizing.size_items.Statement.{statement}
 use Rattle.writer.proofs.sizing.size_items.Tie as tie
 

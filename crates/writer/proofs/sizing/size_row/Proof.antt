@@ -1,6 +1,6 @@
 -- A row is refused by its checks, or goes on as a good one.
 use borrow.Author.Needs.{needs}
-use mathlib.Core.Path.{_≡_, sym, ap, _∙_, subst}
+use mathlib.Core.Path.{sym, ap, _∙_, subst}
 use Rattle.standard.specs.Table.{any}
 use Rattle.writer.specs.InCode.{checkedIs, Styled}
 use Rattle.writer.proofs.Sums.{check-no}

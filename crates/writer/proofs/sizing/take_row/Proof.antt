@@ -1,6 +1,5 @@
 -- A row is read where a level and two words are left.
 use borrow.Author.Needs.{needs}
-use mathlib.Core.Path.{_≡_, refl, sym, _∙_}
 use native.Mathlib.Omega.{arith}
 use lib.ListN.{length-drop}
 use Rattle.writer.proofs.Checks.{row-words}
