@@ -13,3 +13,4 @@ pub mod Tables
 pub mod Round
 pub mod Flat
 pub mod Flow
+pub mod Stores

@@ -5,6 +5,7 @@ ghost use lib.ListN.{length};
 ghost use Rattle.io.specs.Counts.{Counts};
 
 mod form;
+mod reading;
 mod writing;
 
 use libc::STDOUT_FILENO;
@@ -16,6 +17,8 @@ const FILE_MOST: usize = 0x100_0000;
 enum Entry {
     Size,
     Write,
+    Read,
+    Walk,
 }
 
 // How many cases there were, and how many of their answers were right.
@@ -38,6 +41,8 @@ fn right_in(entry: Entry, line: &[u8]) -> u64
     match entry {
         Entry::Size => writing::size_case(line),
         Entry::Write => writing::write_case(line),
+        Entry::Read => reading::read_case(line),
+        Entry::Walk => reading::walk_case(line),
     }
 }
 
@@ -46,6 +51,8 @@ fn answers_in(entry: Entry) -> u64 {
     match entry {
         Entry::Size => 1,
         Entry::Write => 2,
+        Entry::Read => 2,
+        Entry::Walk => 1,
     }
 }
 
@@ -156,4 +163,7 @@ fn main() {
     replay(Entry::Size, b"size.txt");
     replay(Entry::Write, b"write.txt");
     replay(Entry::Write, b"own_write.txt");
+    replay(Entry::Read, b"read.txt");
+    replay(Entry::Read, b"read_room.txt");
+    replay(Entry::Walk, b"walk.txt");
 }

@@ -116,38 +116,61 @@ fn right_in_both(
         + writing::one(is_due(given, due, want) && is_stored)
 }
 
-// The same, where the rooms and what is due stand at a place of the line.
-fn right_read(line: &[u8], at: usize, bytes: &[u8]) -> u64
+// The same, with so many words and so much text to lend.
+fn right_lent(
+    bytes: &[u8],
+    rows: u64,
+    letters: u64,
+    want_words: &[u64],
+    want_text: &[u8],
+    due: Answer,
+    want: Wanted,
+) -> u64
     ensures { λ r. ⌜ r ≤ 2 ⌝ }
 {
     let mut words = [0u64; WORDS];
-    let mut want_words = [0u64; WORDS];
-    let mut text = io::buffer();
-    let mut want_text = io::buffer();
     fresh(&mut words);
-    fresh(&mut want_words);
+    let n = part(rows, &words);
+    let mut text = io::buffer();
     writing::fresh(&mut text);
-    writing::fresh(&mut want_text);
-    let rows = form::number(line, at, 10);
-    let letters = form::number(line, form::after(line, rows.at, b' '), 10);
-    let due = form::answer_at(line, form::after(line, letters.at, b' '));
-    let want = read_wanted(line, due, &mut want_words, &mut want_text);
-    if want.at != line.len() {
-        return 0;
-    }
-    let n = part(rows.value, &words);
-    let m = writing::part(letters.value, &text);
-    let k = part(rows.value, &want_words);
-    let j = writing::part(letters.value, &want_text);
-    if n as u64 != rows.value || m as u64 != letters.value {
+    let m = writing::part(letters, &text);
+    if n as u64 != rows || m as u64 != letters {
         return 0;
     }
     right_in_both(
         bytes,
         &mut words[..n],
         &mut text[..m],
-        &want_words[..k],
-        &want_text[..j],
+        want_words,
+        want_text,
+        due,
+        want,
+    )
+}
+
+// The same, where the rooms and what is due stand at a place of the line.
+fn right_read(line: &[u8], at: usize, bytes: &[u8]) -> u64
+    ensures { λ r. ⌜ r ≤ 2 ⌝ }
+{
+    let rows = form::number(line, at, 10);
+    let letters = form::number(line, form::after(line, rows.at, b' '), 10);
+    let due = form::answer_at(line, form::after(line, letters.at, b' '));
+    let mut words = [0u64; WORDS];
+    fresh(&mut words);
+    let mut text = io::buffer();
+    writing::fresh(&mut text);
+    let want = read_wanted(line, due, &mut words, &mut text);
+    if want.at != line.len() {
+        return 0;
+    }
+    let n = part(rows.value, &words);
+    let m = writing::part(letters.value, &text);
+    right_lent(
+        bytes,
+        rows.value,
+        letters.value,
+        &words[..n],
+        &text[..m],
         due,
         want,
     )
@@ -186,7 +209,8 @@ fn walks(line: &[u8], from: usize, bytes: &[u8]) -> bool {
             length = form::number(line, due.at, 10);
         }
         let stepped = walker::step_at(bytes, at);
-        if !is_step(stepped.answer, due, at, length.value) {
+        let answer = stepped.answer;
+        if !is_step(answer, due, at, length.value) {
             return false;
         }
         if length.at <= i {

@@ -31,7 +31,7 @@ fn read_table(line: &[u8], words: &mut [u64], text: &mut [u8]) -> Table
 }
 
 // What an output holds before it is lent. Neighbours differ, so that a byte in the wrong place shows.
-fn fresh(out: &mut [u8]) {
+pub fn fresh(out: &mut [u8]) {
     let mut i: usize = 0;
     while i < out.len() {
         out[i] = (i % 251) as u8;
@@ -58,7 +58,7 @@ fn goes_with(given: Written, due: Answer, length: u64, room: usize) -> bool {
     }
 }
 
-fn one(right: bool) -> u64
+pub fn one(right: bool) -> u64
     ensures { λ r. ⌜ r ≤ 1 ⌝ }
 {
     if right {
@@ -68,7 +68,7 @@ fn one(right: bool) -> u64
 }
 
 // So much of a buffer, or none of it where it has less.
-fn part(room: u64, buffer: &[u8]) -> usize
+pub fn part(room: u64, buffer: &[u8]) -> usize
     ensures { λ r. ⌜ Counts r (now (buffer .entry)) ⌝ }
 {
     if (buffer.len() as u64) < room {

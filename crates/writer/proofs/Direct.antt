@@ -21,7 +21,7 @@ use Rattle.writer.specs.Marks.{markWidth}
 use Rattle.writer.specs.Filling.{elementsOf, elementCode, isNumber, isListOrMap, numberHead, compoundHead, Put, behind, kindAt, numberAt, Ready, Stepped}
 use Rattle.writer.specs.declared.filling.Cursor.{Cursor}
 use Rattle.writer.proofs.Tabled.{kindsOnto, other}
-use Rattle.writer.proofs.Stores.{put-on}
+use Rattle.standard.specs.Laws.Stores.{put-on}
 use Rattle.writer.proofs.Rows.{Row, value-row, stepped}
 
 -- A code and a number behind it

@@ -18,7 +18,8 @@ use Rattle.writer.specs.Heads.{head, enclosure, itemWidth}
 use Rattle.writer.specs.Marks.{markWidth}
 use Rattle.writer.specs.Filling.{elementsOf, elementCode, own, due, markOf, flat, boxed, lettersIn, Fillable, fresh, kindAt, numberAt, lettersAt, markAt, dueAt, ownAt, Ready, Stepped}
 use Rattle.writer.specs.declared.filling.Cursor.{Cursor}
-use Rattle.writer.proofs.Stores.{sets-append, put-on, within, untouched}
+use Rattle.standard.specs.Laws.Stores.{sets-append, put-on}
+use Rattle.writer.proofs.Stores.{within, untouched}
 
 -- A row's mark, and its head
 

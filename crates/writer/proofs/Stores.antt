@@ -2,24 +2,15 @@
 use Prim.Native.Nat.{ℕ, zero, suc, _+_, _*_, _-_, _/_, _%_, _^_, _≤_, _<_}
 use mathlib.Core.Path.{_≡_, refl, sym, ap, _∙_}
 use mathlib.Core.List.{List, [], _∷_, _++_}
-use native.Mathlib.Nat.{add-zero, add-suc, sub-zero, zero-sub, div-div-eq-div-mul, pow-succ', div-one}
+use native.Mathlib.Nat.{add-suc, div-div-eq-div-mul, pow-succ', div-one}
 use native.Mathlib.Omega.{arith}
 use lib.ListN.{length, take, drop, getD, set, length-append}
-use lib.Seq.{sets, set-comm, take-nil, take-take, drop-cons, drop-set-lt}
+use lib.Seq.{sets, set-comm, take-take, drop-cons, drop-set-lt}
 use Rattle.standard.specs.Bytes.{be, unbe, spell}
 use Rattle.standard.specs.Laws.Numbers.{length-be}
+use Rattle.standard.specs.Laws.Stores.{sets-append, drop-take}
 use Rattle.writer.specs.Heads.{headIs}
 use Rattle.writer.specs.declared.head.Head.{Head}
-
-pub sets-append : (l : List ℕ) (i : ℕ) (xs ys : List ℕ) → sets l i (xs ++ ys) ≡ sets (sets l i xs) (i + length xs) ys
-sets-append l i [] ys = rw add-zero
-sets-append l i (a ∷ xs) ys =
-    let e : i + suc (length xs) ≡ suc i + length xs = omega arith in
-    rw e (sets-append (set l i a) (suc i) xs ys)
-
--- a second run of stores behind a first
-pub put-on : (d d₁ d₂ : List ℕ) (i j : ℕ) (xs ys : List ℕ) → d₁ ≡ sets d i xs → d₂ ≡ sets d₁ j ys → j ≡ i + length xs → d₂ ≡ sets d i (xs ++ ys)
-put-on d d₁ d₂ i j xs ys e f g = rw (f, e, g) (sym (sets-append d i xs ys))
 
 -- a store behind a run
 sets-set : (l : List ℕ) (i : ℕ) (xs : List ℕ) (k a : ℕ) → i + length xs ≤ k → set (sets l i xs) k a ≡ sets (set l k a) i xs
@@ -36,12 +27,6 @@ sets-swap l i xs k (b ∷ ys) h = sets-swap (set l k b) i xs (suc k) ys (omega a
 drop-sets : (l : List ℕ) (i : ℕ) (xs : List ℕ) (n : ℕ) → i + length xs ≤ n → drop n (sets l i xs) ≡ drop n l
 drop-sets l i [] n h = refl
 drop-sets l i (a ∷ xs) n h = drop-sets (set l i a) (suc i) xs n (omega arith) ∙ drop-set-lt n l i a (omega arith)
-
-drop-take : (m n : ℕ) (l : List ℕ) → drop m (take n l) ≡ take (n - m) (drop m l)
-drop-take zero n l = rw sub-zero
-drop-take (suc m) zero l = rw zero-sub
-drop-take (suc m) (suc n) [] = rw take-nil
-drop-take (suc m) (suc n) (a ∷ l) = let e : suc n - suc m ≡ n - m = omega arith in rw e (drop-take m n l)
 
 -- Numbers in straight line
 
@@ -95,20 +80,6 @@ none-left l at k n h = let e : k ≡ 0 = omega arith in rw e
 -- what is left of a text of n bytes behind the first k
 abbrev pub left : (text : List ℕ) → (from n k : ℕ) → List ℕ
 left t j n k = take (n - k) (drop (j + k) t)
-
-pub text-begins : (l t : List ℕ) (at j n : ℕ) → sets l (at + 0) (left t j n 0) ≡ sets l at (take n (drop j t))
-text-begins l t at j n = rw (add-zero, sub-zero, add-zero)
-
-pub text-goes-on : (l t : List ℕ) (at j n k : ℕ) → k < n → j + n ≤ length t → sets (set l (at + k) (getD t (j + k) 0)) (at + (k + 1)) (left t j n (k + 1)) ≡ sets l (at + k) (left t j n k)
-text-goes-on l t at j n k h g =
-    let a : n - k ≡ suc (n - (k + 1)) = omega arith in
-    let b : at + (k + 1) ≡ suc (at + k) = omega arith in
-    let c : j + (k + 1) ≡ suc (j + k) = omega arith in
-    let d : j + k < length t = omega arith in
-    rw (a, b, c, drop-cons t (j + k) 0 d)
-
-pub text-ends : (l t : List ℕ) (at j n k : ℕ) → n ≤ k → l ≡ sets l (at + k) (left t j n k)
-text-ends l t at j n k h = let e : n - k ≡ 0 = omega arith in rw e
 
 -- A head: a code, and two numbers
 

@@ -29,7 +29,8 @@ use Rattle.writer.specs.declared.sizing.Sized.the-variants.{Fits, Refuse
 use Rattle.writer.specs.declared.sizing.Extent.{Extent}
 use Rattle.standard.specs.Laws.Numbers.{length-be}
 use Rattle.standard.specs.Laws.Written.{no-children}
-use Rattle.writer.proofs.Stores.{sets-append, sets-swap, put-on}
+use Rattle.standard.specs.Laws.Stores.{sets-append, put-on}
+use Rattle.writer.proofs.Stores.{sets-swap}
 use Rattle.writer.proofs.Flat.{plain-leaf}
 use Rattle.writer.proofs.Bodies.{compact-head, wide-head, kind-small, head-short, item-short}
 

@@ -1,8 +1,11 @@
 -- Well-formed bytes as rows, one after another, with no recursion into values: what a reader that only fills rows may do.
--- What is due is kept as a stack of runs. `flow` of Laws/Flow.antt says that this gives the rows and the text of the value.
+-- What is due is kept as a stack of runs, of which there are at most as many as a value may take levels. `read-flow` of Laws/Flow.antt says that this gives
+-- the rows and the text of the value.
 use Prim.Native.Nat.{ℕ, zero, suc}
 use mathlib.Core.List.{List, [], _∷_, _++_}
-use Rattle.standard.specs.Answer.{Answer, got, refuse, at, _>>=_}
+use lib.Dec.{ltb}
+use lib.ListN.{length}
+use Rattle.standard.specs.Answer.{Answer, got, refuse, at, _>>=_, _>>_, need}
 use Rattle.standard.specs.Codes.{Layout, unknown, described, scalar, compound, array, layoutOf, kindOf}
 use Rattle.standard.specs.Kinds.{named}
 use Rattle.standard.specs.Read.{plain, fields}
@@ -56,11 +59,12 @@ stepOf own [] = refuse 0 (at 0)
 stepOf own (c ∷ r) = behindStep (kindOf c) r (layoutOf c)
 stepOf (under c) r = behindStep (kindOf c) r (layoutOf c)
 
--- so many rows, and their text
-unfoldable pub flat : (rows : ℕ) → List Run → List ℕ → Answer (List ℕ × List ℕ)
-flat zero t b = got ([], [])
-flat (suc n) [] b = refuse 0 (at 0)
-flat (suc n) (run k h ∷ t) b = do
+-- so many rows, and their text, with never more runs than the limit
+unfoldable pub flat : (limit rows : ℕ) → List Run → List ℕ → Answer (List ℕ × List ℕ)
+flat l zero t b = got ([], [])
+flat l (suc n) [] b = refuse 0 (at 0)
+flat l (suc n) (run k h ∷ t) b = do
+  need (ltb (length t) l) 0 (at 0)
   s ← stepOf h b
-  (rs, ts) ← flat n (push (s .children) (s .head) (push k h t)) (s .rest)
+  (rs, ts) ← flat l n (push (s .children) (s .head) (push k h t)) (s .rest)
   got (s .kind ∷ s .number ∷ rs, s .text ++ ts)

@@ -1,12 +1,13 @@
 -- Big-endian numbers, once over the width: what is spelled is what was written, and what is written is what was spelled.
 use Prim.Native.Nat.{ℕ, zero, suc, _+_, _*_, _/_, _%_, _^_, _≤_, _<_}
-use mathlib.Core.Path.{_≡_, refl, sym, ap, _∙_, subst}
+use mathlib.Core.Path.{_≡_, refl, sym, ap, _∙_}
 use mathlib.Core.List.{List, [], _∷_, _++_}
 use native.Mathlib.Omega.{arith}
-use native.Mathlib.Nat.{pow-zero, pow-succ', mod-eq-of-lt, one-le-pow, lt-of-lt-of-le, mul-le-mul-right}
+use native.Mathlib.Nat.{add-suc, pow-succ', mod-eq-of-lt, one-le-pow, lt-of-lt-of-le, mul-le-mul-right}
 use lib.Arith.{mod-mul, digits-div}
 use lib.Dec.{lit<}
-use lib.ListN.{length}
+use lib.ListN.{length, take, drop, getD, length-drop}
+use lib.Seq.{take-add, drop-cons, drop-drop, length-take-le}
 use Rattle.standard.specs.Bytes.{be, unbe, spell}
 
 pub length-be : (w n : ℕ) → length (be w n) ≡ w
@@ -38,6 +39,11 @@ unfolding spell
 spell-split x [] = omega arith
 spell-split x (b ∷ bs) = spell-split (x * 256 + b) bs ∙ rw (pow-succ' 256 (length bs), spell-split (0 * 256 + b) bs) (omega arith)
 
+spell-append : (x : ℕ) (a b : List ℕ) → spell x (a ++ b) ≡ spell (spell x a) b
+unfolding spell
+spell-append x [] b = refl
+spell-append x (c ∷ a) b = spell-append (x * 256 + c) a b
+
 pub unbe-small : (a : List ℕ) → Bytes a → unbe a < 256 ^ length a
 unfolding spell
 unbe-small [] h = lit< tt
@@ -61,3 +67,29 @@ pub bytes-be : (w n : ℕ) → Bytes (be w n)
 unfolding be
 bytes-be zero n = tt
 bytes-be (suc w) n = (omega arith, bytes-be w n)
+
+-- A number read in straight line, from place i of the bytes b on
+
+-- the number that w bytes from i + j on spell behind the number a
+abbrev pub straight : (b : List ℕ) → (i j width a : ℕ) → ℕ
+straight b i j zero a = a
+straight b i j (suc w) a = straight b i (suc j) w (a * 256 + getD b (i + j) 0)
+
+straight-on : (b : List ℕ) (i j w a : ℕ) → i + j + w ≤ length b → straight b i j w a ≡ spell a (take w (drop (i + j) b))
+unfolding spell
+straight-on b i j zero a h = refl
+straight-on b i j (suc w) a h = straight-on b i (suc j) w (a * 256 + getD b (i + j) 0) (omega arith) ∙ rw (drop-cons b (i + j) 0 (omega arith), add-suc)
+
+-- at a numeral for w the left side computes to the sum that code writes out
+pub spelled : (b : List ℕ) (i w : ℕ) → i + suc w ≤ length b → straight b i 1 w (getD b i 0) ≡ unbe (take (suc w) (drop i b))
+unfolding spell
+spelled b i w h =
+    let e : i + 1 ≡ suc i = omega arith in
+    let z : getD b i 0 ≡ 0 * 256 + getD b i 0 = omega arith in
+    straight-on b i 1 w (getD b i 0) (omega arith) ∙ rw (drop-cons b i 0 (omega arith), e) (ap (λ (a : ℕ). spell a (take w (drop (suc i) b))) z)
+
+-- a number in two halves, the second of v bytes
+pub halves : (b : List ℕ) (i w v : ℕ) → i + (w + v) ≤ length b → unbe (take w (drop i b)) * 256 ^ v + unbe (take v (drop (i + w) b)) ≡ unbe (take (w + v) (drop i b))
+halves b i w v h =
+    let l : length (take v (drop (i + w) b)) ≡ v = length-take-le v (drop (i + w) b) (omega (arith, length-drop (i + w) b)) in
+    sym (ap unbe (take-add w v (drop i b)) ∙ rw (drop-drop w i b, spell-append 0 (take w (drop i b)) (take v (drop (i + w) b)), spell-split (unbe (take w (drop i b))) (take v (drop (i + w) b)), l))

@@ -1,0 +1,12 @@
+pub mod Entries
+pub mod Rooms
+pub mod Scalars
+pub mod Several
+pub mod Nodes
+pub mod Whole
+pub mod Runs
+pub mod RowSteps
+pub mod Filled
+pub mod Readings
+pub mod Stepping
+pub mod Walks

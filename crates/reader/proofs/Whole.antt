@@ -1,0 +1,23 @@
+-- A run of one value is the value.
+use Prim.Native.Nat.{ℕ, _-_}
+use mathlib.Core.Path.{_≡_, refl}
+use mathlib.Core.List.{List, append-nil}
+use native.Mathlib.Nat.{zero-add, add-zero}
+use lib.ListN.{length}
+use Rattle.standard.specs.Answer.{Answer, got, refuse, at, _>>=_}
+use Rattle.standard.specs.Tree.{Tree, Trees, none, more, tall, text}
+use Rattle.standard.specs.Read.{many, value, front}
+use Rattle.standard.specs.Outcomes as outcome
+use Rattle.reader.specs.InCode.{measuredIs}
+use Rattle.reader.specs.Measuring.{several, reads}
+use Rattle.reader.specs.declared.measuring.Measured.{Measured}
+use Rattle.reader.specs.declared.measuring.Head.the-variants.{Own}
+
+one : (n : ℕ) (m : Answer (Tree × List ℕ)) → measuredIs (several n 0 0 (_>>=_ {B = Trees × List ℕ} m (λ x. got (more (x .0) none, x .1)))) ≡ _>>=_ {B = outcome.Extent} m (λ x. got (outcome.extent (x .0) (n - length (x .1))))
+unfolding several tall text
+one n (got (v, z)) = rw (append-nil (text v), add-zero (tall v), zero-add (tall v), zero-add (length (text v)))
+one n (refuse x (at p)) = refl
+
+pub measure-is : (l : ℕ) (r : List ℕ) (m : Measured) → m ≡ several (length r) 0 0 (many (reads Own l) 1 0 r) → measuredIs m ≡ outcome.measure l r
+unfolding outcome.measure front value reads many
+measure-is l r m e = rw e (one (length r) (reads Own l 0 r))

@@ -1,0 +1,34 @@
+-- What the code relies on of the table of codes: `table` of proofs/Entries.antt holds every entry against it.
+use Prim.Native.Nat.{ℕ}
+use mathlib.Core.Bool.{Bool, true, not, _&&_, _||_}
+use lib.Dec.{eqb}
+use Rattle.standard.specs.Codes.{constant, whole, small, raw, sized, Layout, unknown, described, scalar, compound, array}
+use Rattle.standard.specs.Kinds.{fair}
+
+-- the width of a length, a size or a count
+abbrev pub narrow : (width : ℕ) → Bool
+narrow w = eqb w 1 || eqb w 4
+
+-- the width of a number
+abbrev pub usual : (width : ℕ) → Bool
+usual w = eqb w 0 || (eqb w 2 || (eqb w 8 || narrow w))
+
+-- are a kind's numbers held to more than their width
+abbrev pub judged : (kind : ℕ) → Bool
+judged k = eqb k 0x56 || eqb k 0x73
+
+-- are a kind's texts held to more than their length
+abbrev pub spelt : (kind : ℕ) → Bool
+spelt k = eqb k 0xb1 || eqb k 0xb3
+
+-- a code of that kind with that layout: its widths, and what need not be looked at
+unfoldable pub sure : (kind : ℕ) → Layout → Bool
+sure k unknown = true
+sure k described = true
+sure k (scalar (constant n)) = fair k n
+sure k (scalar (whole w)) = usual w && (not (judged k) || narrow w)
+sure k (scalar (small w)) = not (judged k) && (eqb w 4 || eqb w 8)
+sure k (scalar (raw w)) = not (spelt k)
+sure k (scalar (sized w)) = not (judged k) && narrow w
+sure k (compound w) = narrow w
+sure k (array w) = narrow w

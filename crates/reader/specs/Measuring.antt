@@ -1,0 +1,101 @@
+-- What measuring finds of a value, from what reading it gives (standard/specs/Read.antt): a count for each thing that reading builds.
+use Prim.Native.Nat.{ℕ, zero, suc, _+_, _-_, _^_, _≤_, _<_}
+use mathlib.Core.List.{List, [], _∷_}
+use lib.Dec.{eqb, leb}
+use lib.ListN.{length}
+use Rattle.standard.specs.Answer.{Answer, got, refuse, at, tooDeep, elementUnfit, inputShort, codeUnknown, sizeAmiss, rowsShort, textShort}
+use Rattle.standard.specs.Choose.{if}
+use Rattle.standard.specs.Codes.{whole, Layout, isCode, element}
+use Rattle.standard.specs.Tree.{Tree, Trees, tall, tall*, text, text*}
+use Rattle.standard.specs.Read.{coded, payload}
+use Rattle.reader.specs.declared.measuring.Measured.{Measured}
+use Rattle.reader.specs.declared.measuring.Measured.the-variants.{Fits, Refused}
+use Rattle.reader.specs.declared.measuring.Head.{Head}
+use Rattle.reader.specs.declared.measuring.Head.the-variants.{Own, Under}
+use Rattle.reader.specs.declared.measuring.Start.{Start}
+use Rattle.reader.specs.declared.measuring.Start.the-variants as start
+use Rattle.reader.specs.declared.measuring.Body.{Body}
+use Rattle.reader.specs.declared.measuring.Body.the-variants as body
+use Rattle.reader.specs.declared.measuring.Element.{Element}
+use Rattle.reader.specs.declared.measuring.Element.the-variants.{Fit, Unfit}
+
+abbrev pub fits : (length rows text : ℕ) → Measured
+fits n i j = Fits (record { length = n; rows = i; text = j })
+
+abbrev pub refused : (number place : ℕ) → Measured
+refused x p = Refused (record { number = x; place = p })
+
+-- a value in a room of n bytes
+unfoldable pub measured : (room : ℕ) → Answer (Tree × List ℕ) → Measured
+measured n (got (v, z)) = fits (n - length z) (tall v) (length (text v))
+measured n (refuse x (at p)) = refused x p
+
+-- values one after another in a room of n bytes, behind i rows and j bytes of text
+unfoldable pub several : (room rows text : ℕ) → Answer (Trees × List ℕ) → Measured
+several n i j (got (vs, z)) = fits (n - length z) (i + tall* vs) (j + length (text* vs))
+several n i j (refuse x (at p)) = refused x p
+
+-- an array of n bytes, by its contents
+unfoldable pub contents : (whole : ℕ) → Answer (ℕ × Trees) → Measured
+contents n (got (k, vs)) = fits n (suc (tall* vs)) (length (text* vs))
+contents n (refuse x (at p)) = refused x p
+
+-- a scalar of w bytes, t of them text
+abbrev pub block : (room width text place : ℕ) → Measured
+block n w t p = if (leb w n) (fits w 1 t) (refused inputShort p)
+
+-- values, and the row above them
+unfoldable pub above : Measured → Measured
+above (Fits e) = fits (e .length) (e .rows + 1) (e .text)
+above (Refused f) = Refused f
+
+-- values that have to use up a body of n bytes, and the row above them, which takes w bytes
+unfoldable pub closed : (room whole place : ℕ) → Measured → Measured
+closed n w p (Fits e) = if (eqb (e .length) n) (fits w (e .rows + 1) (e .text)) (refused sizeAmiss p)
+closed n w p (Refused f) = Refused f
+
+-- a refusal has that place
+unfoldable pub heldAt : (place : ℕ) → Measured → Measured
+heldAt p (Fits e) = Fits e
+heldAt p (Refused f) = refused (f .number) p
+
+-- there is room for one row more
+abbrev pub Roomy : Measured → Type 0
+Roomy (Fits e) = e .rows + 1 < 2 ^ 64
+Roomy (Refused f) = Unit {0}
+
+-- what is read behind a code, where so many levels are left
+abbrev pub below : (levels : ℕ) → (code place : ℕ) → List ℕ → Answer (Tree × List ℕ)
+below l = λ e q s. payload l e q s
+
+-- how a value is read that begins with its own code, or stands behind a given one
+unfoldable pub reads : Head → (levels : ℕ) → (place : ℕ) → List ℕ → Answer (Tree × List ℕ)
+reads Own l = coded (below l) l
+reads (Under e) l = below l e
+
+-- the bytes from a value's place to its room: the place of an element counts from the code before it
+abbrev pub reach : Head → ℕ
+reach Own = 0
+reach (Under e) = 1
+
+-- the code of a value whose room begins at a, and where its payload begins
+unfoldable pub codeAt : Head → (levels a : ℕ) → List ℕ → Start
+codeAt Own zero a r = start.Bad tooDeep
+codeAt Own (suc l) a [] = start.Bad inputShort
+codeAt Own (suc l) a (c ∷ r) = start.Behind c (a + 1)
+codeAt (Under c) zero a r = start.Bad tooDeep
+codeAt (Under c) (suc l) a r = start.Behind c a
+
+-- may a code with that layout stand for the elements of an array
+unfoldable pub elementOf : Layout → Element
+elementOf y = if (isCode y) (if (element y) Fit (Unfit elementUnfit)) (Unfit codeUnknown)
+
+-- a body lies in its room, behind size and count
+abbrev pub Within : (width room : ℕ) → Body → Type 0
+Within w n (body.Found k e) = (w + w ≤ e) × (e ≤ n) × (k < 2 ^ 32)
+Within w n (body.Bad f) = Unit {0}
+
+-- what was measured, if there is room for so many rows and for so much text
+unfoldable pub withRoom : (rows text : ℕ) → Measured → Measured
+withRoom i j (Fits e) = if (leb (e .rows) i) (if (leb (e .text) j) (Fits e) (refused textShort 0)) (refused rowsShort 0)
+withRoom i j (Refused f) = Refused f

@@ -1,0 +1,397 @@
+// Measuring: how long a value is, and how much it reads to (docs/FORMAT.md, 5.3 and 6.3).
+//
+// The functions go as the definition of reading does, by its names and in its order of checks, and count where it builds a tree.
+// They call each other with fewer levels left; values that stand side by side are taken in one loop. A room is a part of the
+// caller's bytes, and nothing beyond it is looked at.
+ghost use mathlib.Core.Path.{_≡_};
+ghost use Prim.Native.Nat.{ℕ, _+_, _^_, _≤_, _<_};
+ghost use lib.Dec.{T};
+ghost use lib.ListN.{length, take, drop};
+ghost use Rattle.standard.specs.Bytes.{unbe};
+ghost use Rattle.standard.specs.Codes as codes;
+ghost use Rattle.standard.specs.Codes.{layoutOf};
+ghost use Rattle.standard.specs.Kinds.{fair, paired};
+ghost use Rattle.standard.specs.Read as read;
+ghost use Rattle.standard.specs.Outcomes as outcome;
+ghost use Rattle.standard.specs.Outcomes.{levelMost};
+ghost use Rattle.reader.specs.Entries.{narrow, sure};
+ghost use Rattle.reader.specs.InCode.{measuredIs, bodyIs};
+ghost use Rattle.reader.specs.Measuring.{refused, block, measured, several, contents, above, closed, heldAt, below, reads, reach, codeAt, elementOf, Roomy, Within};
+use crate::number::narrow_at;
+use standard::format_code;
+use standard::format_code::Layout;
+use standard::kind;
+use standard::refusal;
+use standard::refusal::Refusal;
+use standard::text;
+
+// The length in bytes of a value, and the rows and the bytes of text that it reads to.
+pub struct Extent {
+    pub length: usize,
+    pub rows: usize,
+    pub text: usize,
+}
+
+pub enum Measured {
+    Fits(Extent),
+    Refused(Refusal),
+}
+
+// Whether a value begins with its own code, or stands behind a code given before, as the elements of an array do.
+enum Head {
+    Own,
+    Under(u8),
+}
+
+// The code of a value and where its payload begins, or the number of the refusal.
+enum Start {
+    Behind { code: u8, from: usize },
+    Bad(usize),
+}
+
+// How many values stand in a body and where it ends, or the refusal.
+enum Body {
+    Found { count: usize, end: usize },
+    Bad(Refusal),
+}
+
+// Whether a code may stand for the elements of an array, or the number of the refusal.
+enum Element {
+    Fit,
+    Unfit(usize),
+}
+
+pub(crate) fn refuse(number: usize, place: usize) -> Measured
+    ensures { λ r. ⌜ r ≡ refused number place ⌝ }
+{
+    Measured::Refused(Refusal { number, place })
+}
+
+// A scalar of so many bytes, the last of them text.
+fn fixed(s: &[u8], width: usize, text: usize, place: usize) -> Measured
+    ensures { λ r. ⌜ r ≡ block (length (now (s .entry))) width text place ⌝ }
+{
+    if s.len() < width {
+        return refuse(refusal::INPUT_SHORT, place);
+    }
+    Measured::Fits(Extent {
+        length: width,
+        rows: 1,
+        text,
+    })
+}
+
+// Is the number of so many bytes one that its kind allows. Only that of a boolean or a char has to be looked at.
+fn fair_at(s: &[u8], width: usize, kind: u64) -> bool
+    requires { ⌜ T (sure kind (codes.scalar (codes.whole width))) × (width ≤ length (now s)) ⌝ }
+    ensures { λ r. ⌜ r ≡ fair kind (unbe (take width (now (s .entry)))) ⌝ }
+{
+    match kind {
+        0x56 | 0x73 => kind::is_fair(kind, narrow_at(s, 0, width)),
+        _ => true,
+    }
+}
+
+fn whole(s: &[u8], width: usize, kind: u64, place: usize) -> Measured
+    requires { ⌜ T (sure kind (codes.scalar (codes.whole width))) ⌝ }
+    ensures { λ r. ⌜ r ≡ measured (length (now (s .entry))) (read.leaf (codes.whole width) kind place (now (s .entry))) ⌝ }
+{
+    if s.len() < width {
+        return refuse(refusal::INPUT_SHORT, place);
+    }
+    if !fair_at(s, width, kind) {
+        return refuse(refusal::PAYLOAD_BAD, place);
+    }
+    Measured::Fits(Extent {
+        length: width,
+        rows: 1,
+        text: 0,
+    })
+}
+
+fn sized(s: &[u8], width: usize, kind: u64, place: usize) -> Measured
+    requires { ⌜ T (sure kind (codes.scalar (codes.sized width))) ⌝ }
+    ensures { λ r. ⌜ r ≡ measured (length (now (s .entry))) (read.leaf (codes.sized width) kind place (now (s .entry))) ⌝ }
+{
+    if s.len() < width {
+        return refuse(refusal::INPUT_SHORT, place);
+    }
+    let count = narrow_at(s, 0, width) as usize;
+    if s.len() - width < count {
+        return refuse(refusal::INPUT_SHORT, place);
+    }
+    let end = width + count;
+    if !text::is_clean(kind, &s[width..end]) {
+        return refuse(refusal::PAYLOAD_BAD, place);
+    }
+    Measured::Fits(Extent {
+        length: end,
+        rows: 1,
+        text: count,
+    })
+}
+
+// The size and the count before a body, of so many bytes each.
+fn fields(s: &[u8], width: usize, place: usize) -> Body
+    requires { ⌜ T (narrow width) ⌝ }
+    ensures { λ r. ⌜ (bodyIs width (now (s .entry)) r ≡ read.fields place width (now (s .entry))) × Within width (length (now (s .entry))) r ⌝ }
+{
+    if s.len() < width {
+        return Body::Bad(Refusal {
+            number: refusal::INPUT_SHORT,
+            place,
+        });
+    }
+    let size = narrow_at(s, 0, width) as usize;
+    let room = s.len() - width;
+    if size < width {
+        return Body::Bad(Refusal {
+            number: refusal::SIZE_AMISS,
+            place,
+        });
+    }
+    if room < size {
+        return Body::Bad(Refusal {
+            number: refusal::INPUT_SHORT,
+            place,
+        });
+    }
+    Body::Found {
+        count: narrow_at(s, width, width) as usize,
+        end: width + size,
+    }
+}
+
+// May a compound of that kind hold so many values: a map holds pairs.
+fn is_paired(kind: u64, count: usize) -> bool
+    ensures { λ r. ⌜ r ≡ paired kind count ⌝ }
+{
+    if kind == 0xd1 {
+        return count % 2 == 0;
+    }
+    true
+}
+
+fn filled(width: usize) -> Element
+    ensures { λ r. ⌜ r ≡ elementOf (codes.scalar (codes.whole width)) ⌝ }
+{
+    if width == 0 {
+        return Element::Unfit(refusal::ELEMENT_UNFIT);
+    }
+    Element::Fit
+}
+
+fn element_of(code: u8) -> Element
+    ensures { λ r. ⌜ r ≡ elementOf (layoutOf code) ⌝ }
+{
+    let e = format_code::entry_of(code);
+    let layout = e.1;
+    match layout {
+        Layout::Unknown => Element::Unfit(refusal::CODE_UNKNOWN),
+        Layout::Described => Element::Unfit(refusal::ELEMENT_UNFIT),
+        Layout::Constant(_) => Element::Unfit(refusal::ELEMENT_UNFIT),
+        Layout::Whole(width) => filled(width),
+        Layout::Small(_) => Element::Fit,
+        Layout::Raw(width) => filled(width),
+        Layout::Sized(width) => filled(width),
+        Layout::Compound(_) => Element::Unfit(refusal::ELEMENT_UNFIT),
+        Layout::Array(_) => Element::Unfit(refusal::ELEMENT_UNFIT),
+    }
+}
+
+// Values, and the row above them.
+fn row_above(m: Measured) -> Measured
+    requires { ⌜ Roomy m ⌝ }
+    ensures { λ r. ⌜ r ≡ above m ⌝ }
+{
+    match m {
+        Measured::Fits(e) => Measured::Fits(Extent {
+            length: e.length,
+            rows: e.rows + 1,
+            text: e.text,
+        }),
+        Measured::Refused(f) => Measured::Refused(f),
+    }
+}
+
+// Values that have to use up a body of so many bytes, and the row above them, which takes `whole` bytes.
+fn done(m: Measured, room: usize, whole: usize, place: usize) -> Measured
+    requires { ⌜ Roomy m ⌝ }
+    ensures { λ r. ⌜ r ≡ closed room whole place m ⌝ }
+{
+    match m {
+        Measured::Fits(e) => {
+            if e.length == room {
+                return Measured::Fits(Extent {
+                    length: whole,
+                    rows: e.rows + 1,
+                    text: e.text,
+                });
+            }
+            refuse(refusal::SIZE_AMISS, place)
+        }
+        Measured::Refused(f) => Measured::Refused(f),
+    }
+}
+
+// A refusal in the contents of an array has the array's place.
+fn held(m: Measured, place: usize) -> Measured
+    ensures { λ r. ⌜ r ≡ heldAt place m ⌝ }
+{
+    match m {
+        Measured::Fits(e) => Measured::Fits(e),
+        Measured::Refused(f) => refuse(f.number, place),
+    }
+}
+
+fn code_at(s: &[u8], at: usize, head: Head, levels: usize) -> Start
+    requires { ⌜ at ≤ length (now s) ⌝ }
+    ensures { λ r. ⌜ r ≡ codeAt head levels at (drop at (now (s .entry))) ⌝ }
+{
+    if levels == 0 {
+        return Start::Bad(refusal::TOO_DEEP);
+    }
+    match head {
+        Head::Own => {
+            if at == s.len() {
+                return Start::Bad(refusal::INPUT_SHORT);
+            }
+            Start::Behind {
+                code: s[at],
+                from: at + 1,
+            }
+        }
+        Head::Under(code) => Start::Behind { code, from: at },
+    }
+}
+
+// So many values, one after another, where so many levels are left.
+// No count is believed: each turn refuses or takes a byte, for a value has its code, and the payload of an element is never empty.
+fn many(s: &[u8], head: Head, count: usize, place: usize, levels: usize) -> Measured
+    requires { ⌜ (place + reach head + length (now s) < 2 ^ 63) × (count < 2 ^ 32) ⌝ }
+    ensures { λ r. ⌜ r ≡ several (length (now (s .entry))) 0 0 (read.many (reads head levels) count place (now (s .entry))) ⌝ }
+{
+    let mut at: usize = 0;
+    let mut rows: usize = 0;
+    let mut text: usize = 0;
+    let mut left = count;
+    while 0 < left {
+        match code_at(s, at, head, levels) {
+            Start::Bad(number) => return refuse(number, place + at),
+            Start::Behind { code, from } => {
+                match payload(&s[from..], code, place + at, levels) {
+                    Measured::Refused(f) => return Measured::Refused(f),
+                    Measured::Fits(e) => {
+                        at = from + e.length;
+                        rows += e.rows;
+                        text += e.text;
+                    }
+                }
+            }
+        }
+        left -= 1;
+    }
+    Measured::Fits(Extent {
+        length: at,
+        rows,
+        text,
+    })
+}
+
+// What stands behind a code.
+fn payload(s: &[u8], code: u8, place: usize, levels: usize) -> Measured
+    requires { ⌜ (place + 1 + length (now s) < 2 ^ 63) × (0 < levels) ⌝ }
+    ensures { λ r. ⌜ r ≡ measured (length (now (s .entry))) (read.payload levels code place (now (s .entry))) ⌝ }
+{
+    let e = format_code::entry_of(code);
+    let kind = e.0;
+    let layout = e.1;
+    match layout {
+        Layout::Unknown => refuse(refusal::CODE_UNKNOWN, place),
+        Layout::Described => row_above(many(s, Head::Own, 2, place + 1, levels - 1)),
+        Layout::Constant(_) => fixed(s, 0, 0, place),
+        Layout::Whole(width) => whole(s, width, kind, place),
+        Layout::Small(_) => fixed(s, 1, 0, place),
+        Layout::Raw(width) => fixed(s, width, width, place),
+        Layout::Sized(width) => sized(s, width, kind, place),
+        Layout::Compound(width) => compound(s, width, kind, place, levels - 1),
+        Layout::Array(width) => array(s, width, place, levels - 1),
+    }
+}
+
+// A list or a map, behind its code.
+fn compound(s: &[u8], width: usize, kind: u64, place: usize, levels: usize) -> Measured
+    requires { ⌜ (place + 1 + length (now s) < 2 ^ 63) × T (narrow width) ⌝ }
+    ensures { λ r. ⌜ r ≡ measured (length (now (s .entry))) (read.behind (below levels) levels kind place (now (s .entry)) (codes.compound width)) ⌝ }
+{
+    match fields(s, width, place) {
+        Body::Bad(f) => Measured::Refused(f),
+        Body::Found { count, end } => {
+            if !is_paired(kind, count) {
+                return refuse(refusal::SIZE_AMISS, place);
+            }
+            let from = width + width;
+            let m = many(&s[from..end], Head::Own, count, place + 1 + from, levels);
+            done(m, end - from, end, place)
+        }
+    }
+}
+
+// An array, behind its code, of whatever kind.
+fn array(s: &[u8], width: usize, place: usize, levels: usize) -> Measured
+    requires { ⌜ (place + 1 + length (now s) < 2 ^ 63) × T (narrow width) ⌝ }
+    ensures { λ r. ⌜ ((k : ℕ) → r ≡ measured (length (now (s .entry))) (read.behind (below levels) levels k place (now (s .entry)) (codes.array width))) ⌝ }
+{
+    match fields(s, width, place) {
+        Body::Bad(f) => Measured::Refused(f),
+        Body::Found { count, end } => {
+            let from = width + width;
+            let m = inside(&s[from..end], count, end, place + 1 + from, levels);
+            held(m, place)
+        }
+    }
+}
+
+// The body of an array that takes `whole` bytes.
+fn inside(body: &[u8], count: usize, whole: usize, place: usize, levels: usize) -> Measured
+    requires { ⌜ (place + length (now body) < 2 ^ 63) × (count < 2 ^ 32) ⌝ }
+    ensures { λ r. ⌜ r ≡ contents whole (read.inside (below levels) levels place count (now (body .entry))) ⌝ }
+{
+    if 0 < count {
+        if levels == 0 {
+            return refuse(refusal::TOO_DEEP, place);
+        }
+        if body.len() == 0 {
+            return refuse(refusal::INPUT_SHORT, place);
+        }
+    }
+    if body.len() == 0 {
+        return Measured::Fits(Extent {
+            length: whole,
+            rows: 1,
+            text: 0,
+        });
+    }
+    items(&body[1..], body[0], count, whole, place, levels)
+}
+
+// So many payloads of one code.
+fn items(s: &[u8], code: u8, count: usize, whole: usize, place: usize, levels: usize) -> Measured
+    requires { ⌜ (place + 1 + length (now s) < 2 ^ 63) × (count < 2 ^ 32) ⌝ }
+    ensures { λ r. ⌜ r ≡ contents whole (read.items (below levels) place count code (now (s .entry))) ⌝ }
+{
+    match element_of(code) {
+        Element::Unfit(number) => refuse(number, place),
+        Element::Fit => {
+            let m = many(s, Head::Under(code), count, place, levels);
+            done(m, s.len(), whole, place)
+        }
+    }
+}
+
+// Measures the value at the front of the bytes.
+pub fn measure(bytes: &[u8]) -> Measured
+    ensures { λ r. ⌜ measuredIs r ≡ outcome.measure levelMost (now (bytes .entry)) ⌝ }
+{
+    many(bytes, Head::Own, 1, 0, kind::LEVELS)
+}
