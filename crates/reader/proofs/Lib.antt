@@ -10,3 +10,4 @@ pub mod Filled
 pub mod Readings
 pub mod Stepping
 pub mod Walks
+pub mod Unique

@@ -1,0 +1,5 @@
+pub mod Puts
+pub mod Decimals
+pub mod Lines
+pub mod NarrowKinds
+pub mod Shown
