@@ -1,6 +1,7 @@
 pub mod Entries
 pub mod Rooms
 pub mod Scalars
+pub mod Plain
 pub mod Several
 pub mod Nodes
 pub mod Whole

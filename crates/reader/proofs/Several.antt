@@ -13,7 +13,7 @@ use Rattle.standard.specs.Read.{many, coded, payload}
 use Rattle.standard.specs.Laws.Answers.{Holds, yes′, no′, on, weaken, out}
 use Rattle.standard.specs.Laws.Bounds.{small}
 use Rattle.standard.specs.Laws.Sound.{payload-sound}
-use Rattle.reader.specs.Measuring.{fits, refused, measured, several, reads, reach, codeAt, Roomy}
+use Rattle.reader.specs.Measuring.{fits, refused, measured, several, reads, reach, codeAt, Roomy, Plain}
 use Rattle.reader.specs.declared.measuring.Extent.{Extent}
 use Rattle.standard.specs.declared.refusal.Refusal.{Refusal}
 use Rattle.reader.specs.declared.measuring.Measured.{Measured}
@@ -203,3 +203,11 @@ module _ (s : List ℕ) (h : Head) (l count p a i j left : ℕ) (g : Going s h l
               letters = omega (arith, u .letters, q .bytes, q .letters, o .begins, g .letters);
               sum = rw (q .rows, q .letters, ← w, ← y) (sym (many-got (reads h l) (length s) i j left (p + a) (drop a s) (q .tree) (q .rest) n (same ∙ q .isRead)) ∙ g .sum);
             }
+
+  -- a scalar that needs no look
+  pub plainly : 0 < left → (c b : ℕ) → codeAt h l a (drop a s) ≡ Behind c b → (w : ℕ) → Plain c w → w ≤ length s - b → Going s h l count p (b + w) (i + 1) j (left - 1)
+  plainly n c b e w f k =
+      let o = opened-room h l a c b s (g .inside) e in
+      let q : fits w 1 0 ≡ measured (length (drop b s)) (payload l c (p + a) (drop b s)) = sym (f l (p + a) (drop b s) (o .2) (rw length-drop k)) in
+      let y : j + 0 ≡ j = omega arith in
+      rw y at (again n c b e (fits w 1 0) q (record { length = w; rows = 1; text = 0 }) refl)

@@ -1,5 +1,6 @@
 -- What measuring finds of a value, from what reading it gives (standard/specs/Read.antt): a count for each thing that reading builds.
 use Prim.Native.Nat.{ℕ, zero, suc, _+_, _-_, _^_, _≤_, _<_}
+use mathlib.Core.Path.{_≡_}
 use mathlib.Core.List.{List, [], _∷_}
 use lib.Dec.{eqb, leb}
 use lib.ListN.{length}
@@ -94,6 +95,10 @@ elementOf y = if (isCode y) (if (element y) Fit (Unfit elementUnfit)) (Unfit cod
 abbrev pub Within : (width room : ℕ) → Body → Type 0
 Within w n (body.Found k e) = (w + w ≤ e) × (e ≤ n) × (k < 2 ^ 32)
 Within w n (body.Bad f) = Unit {0}
+
+-- behind that code, what has w bytes is a row without text, whatever the bytes are
+abbrev pub Plain : (code width : ℕ) → Type 0
+Plain c w = (l p : ℕ) (r : List ℕ) → 0 < l → w ≤ length r → measured (length r) (payload l c p r) ≡ fits w 1 0
 
 -- what was measured, if there is room for so many rows and for so much text
 unfoldable pub withRoom : (rows text : ℕ) → Measured → Measured

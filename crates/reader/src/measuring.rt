@@ -16,7 +16,7 @@ ghost use Rattle.standard.specs.Outcomes as outcome;
 ghost use Rattle.standard.specs.Outcomes.{levelMost};
 ghost use Rattle.reader.specs.Entries.{narrow, sure};
 ghost use Rattle.reader.specs.InCode.{measuredIs, bodyIs};
-ghost use Rattle.reader.specs.Measuring.{refused, block, measured, several, contents, above, closed, heldAt, below, reads, reach, codeAt, elementOf, Roomy, Within};
+ghost use Rattle.reader.specs.Measuring.{refused, block, measured, several, contents, above, closed, heldAt, below, reads, reach, codeAt, elementOf, Roomy, Within, Plain};
 use crate::number::narrow_at;
 use standard::format_code;
 use standard::format_code::Layout;
@@ -265,6 +265,38 @@ fn code_at(s: &[u8], at: usize, head: Head, levels: usize) -> Start
     }
 }
 
+// The width of a scalar of which nothing but its length has to be looked at, as of most values; more than any room has for other codes.
+fn plain_width(code: u8) -> usize
+    ensures { λ r. ⌜ (r < 2 ^ 63 → Plain code r) ⌝ }
+{
+    match code {
+        format_code::NULL => 0,
+        format_code::TRUE => 0,
+        format_code::FALSE => 0,
+        format_code::UINT_0 => 0,
+        format_code::ULONG_0 => 0,
+        format_code::LIST_0 => 0,
+        format_code::UBYTE => 1,
+        format_code::BYTE => 1,
+        format_code::SMALL_UINT => 1,
+        format_code::SMALL_ULONG => 1,
+        format_code::SMALL_INT => 1,
+        format_code::SMALL_LONG => 1,
+        format_code::USHORT => 2,
+        format_code::SHORT => 2,
+        format_code::UINT => 4,
+        format_code::INT => 4,
+        format_code::FLOAT => 4,
+        format_code::DECIMAL_32 => 4,
+        format_code::ULONG => 8,
+        format_code::LONG => 8,
+        format_code::DOUBLE => 8,
+        format_code::TIMESTAMP => 8,
+        format_code::DECIMAL_64 => 8,
+        _ => usize::MAX,
+    }
+}
+
 // So many values, one after another, where so many levels are left.
 // No count is believed: each turn refuses or takes a byte, for a value has its code, and the payload of an element is never empty.
 fn many(s: &[u8], head: Head, count: usize, place: usize, levels: usize) -> Measured
@@ -276,20 +308,26 @@ fn many(s: &[u8], head: Head, count: usize, place: usize, levels: usize) -> Meas
     let mut text: usize = 0;
     let mut left = count;
     while 0 < left {
+        left -= 1;
         match code_at(s, at, head, levels) {
             Start::Bad(number) => return refuse(number, place + at),
             Start::Behind { code, from } => {
-                match payload(&s[from..], code, place + at, levels) {
-                    Measured::Refused(f) => return Measured::Refused(f),
-                    Measured::Fits(e) => {
-                        at = from + e.length;
-                        rows += e.rows;
-                        text += e.text;
+                let width = plain_width(code);
+                if width <= s.len() - from {
+                    at = from + width;
+                    rows += 1;
+                } else {
+                    match payload(&s[from..], code, place + at, levels) {
+                        Measured::Refused(f) => return Measured::Refused(f),
+                        Measured::Fits(e) => {
+                            at = from + e.length;
+                            rows += e.rows;
+                            text += e.text;
+                        }
                     }
                 }
             }
         }
-        left -= 1;
     }
     Measured::Fits(Extent {
         length: at,

@@ -21,7 +21,7 @@ use Rattle.reader.specs.declared.measuring.Head.the-variants.{Own, Under
 use Rattle.reader.proofs.Entries.{entry-sure}
 use Rattle.reader.proofs.Scalars.{constant-is, small-is, raw-is}
 use Rattle.reader.proofs.Rooms.{rest, part-length}
-use Rattle.reader.proofs.Several.{run-roomy, opened-room, Going, begin, end, stops, fails, again}
+use Rattle.reader.proofs.Several.{plainly, run-roomy, opened-room, Going, begin, end, stops, fails, again}
 use Rattle.reader.proofs.Nodes.{behind-of, unknown-is, scalar-is, described-is, Framed, framed, unframed, compound-odd, compound-is, array-is, inside-deep, inside-none, inside-empty, inside-some, items-no, items-is}
 use Rattle.reader.proofs.measuring.array.Reads as array
 use Rattle.reader.proofs.measuring.array.Kinds as array-kinds
@@ -48,6 +48,7 @@ use Rattle.reader.proofs.measuring.fields.Reads as fields-reads
 use Rattle.reader.proofs.measuring.fixed.Reads as fixed-reads
 use Rattle.reader.proofs.measuring.held.Reads as held-reads
 use Rattle.reader.proofs.measuring.is_paired.Reads as is-paired-reads
+use Rattle.reader.proofs.measuring.plain_width.Reads as plain-width-reads
 use Rattle.reader.proofs.measuring.refuse.Reads as refuse-reads
 use Rattle.reader.proofs.measuring.row_above.Reads as row-above-reads
 use Rattle.reader.proofs.measuring.sized.Reads as sized-reads
@@ -123,7 +124,7 @@ abbrev items-claims : ℕ → items-lts.Claims
 items-claims t = (element-of-reads.Asked, element-of-reads.Learnt, refuse-reads.Asked, refuse-reads.Learnt, many-below t, many.Post, done-reads.Asked, done-reads.Learnt)
 
 abbrev many-claims : ℕ → many-lts.Claims
-many-claims t = (code-at-reads.Asked, code-at-reads.Learnt, refuse-reads.Asked, refuse-reads.Learnt, payload-below t, payload.Post)
+many-claims t = (code-at-reads.Asked, code-at-reads.Learnt, refuse-reads.Asked, refuse-reads.Learnt, plain-width-reads.Asked, plain-width-reads.Learnt, payload-below t, payload.Post)
 
 abbrev payload-claims : ℕ → payload-lts.Claims
 payload-claims t = (
@@ -155,16 +156,26 @@ many-Inv-loop s head count place levels at₀ rows₀ text₀ left₀ at rows te
 abbrev many-μ-loop : many-lts.MeasureT-loop
 many-μ-loop s head count place levels at₀ rows₀ text₀ left₀ at rows text left = left
 
--- the code of the next value
+-- the code of the next value, and where what stands behind it begins
 coded : (t : ℕ) (c : many-lts.After-known-told2 (many-claims t) (many-at t) many.Post many-Inv-loop many-μ-loop) →
     let b = c .before .code .given .0 .1 .0 in (b ≤ length (c .before .before .before .before .before .before .before .args .s .now)) × (b + reach (c .before .before .before .before .before .before .before .args .head) ≡ c .before .before .before .before .before .loop .at + 1) × (0 < c .before .before .before .before .before .before .before .args .levels)
 coded t c = opened-room (c .before .before .before .before .before .before .before .args .head) (c .before .before .before .before .before .before .before .args .levels) (c .before .before .before .before .before .loop .at) _ _ (c .before .before .before .before .before .before .before .args .s .now) (c .before .before .before .before .before .loop .inv .inside) (sym (c .before .before .before .code-at .ensures) ∙ c .before .code .given .1)
 
--- after its turn
+-- after the turn of a plain scalar
+passed : (t : ℕ) (c : many-lts.Then1 (many-claims t) (many-at t) many.Post many-Inv-loop many-μ-loop) →
+    let a = c .before .before .before .before .before .before .before .before .before .args in let o = c .before .before .before .before .before .before .before .loop in
+    Going (a .s .now) (a .head) (a .levels) (a .count) (a .place) (c .before .before .before .code .given .0 .1 .0 + c .before .plain-width .result) (o .rows + 1) (o .text) (o .left - 1)
+passed t c =
+    let a = c .before .before .before .before .before .before .before .before .before .args in
+    let o = c .before .before .before .before .before .before .before .loop in
+    plainly (a .s .now) (a .head) (a .levels) (a .count) (a .place) (o .at) (o .rows) (o .text) (o .left) (o .inv) (c .before .before .before .before .before .before .loop-test .taken) _ _ (sym (c .before .before .before .before .before .code-at .ensures) ∙ c .before .before .before .code .given .1) _
+    (c .before .plain-width .ensures (omega (arith, c .if1 .taken, c .before .before .before .before .before .before .before .before .before .good .0 .1))) (c .if1 .taken)
+
+-- after the turn of any other value
 stepped : (t : ℕ) (c : many-lts.After-known-told4 (many-claims t) (many-at t) many.Post many-Inv-loop many-μ-loop) →
-    let a = c .before .before .before .before .before .before .before .before .before .before .before .before .args in let o = c .before .before .before .before .before .before .before .before .before .before .loop in let e = c .before .e .given .0 .0 in
-    Going (a .s .now) (a .head) (a .levels) (a .count) (a .place) (c .before .before .before .before .before .before .code .given .0 .1 .0 + e .length) (o .rows + e .rows) (o .text + e .text) (o .left - 1)
-stepped t c = again _ _ _ _ _ _ _ _ _ (c .before .before .before .before .before .before .before .before .before .before .loop .inv) (c .before .before .before .before .before .before .before .before .before .loop-test .taken) _ _ (sym (c .before .before .before .before .before .before .before .before .code-at .ensures) ∙ c .before .before .before .before .before .before .code .given .1) _ (rw rest at (c .before .before .before .payload .ensures)) _ (c .before .e .given .1)
+    let a = c .before .before .before .before .before .before .before .before .before .before .before .before .before .before .args in let o = c .before .before .before .before .before .before .before .before .before .before .before .before .loop in let e = c .before .e .given .0 .0 in
+    Going (a .s .now) (a .head) (a .levels) (a .count) (a .place) (c .before .before .before .before .before .before .before .before .code .given .0 .1 .0 + e .length) (o .rows + e .rows) (o .text + e .text) (o .left - 1)
+stepped t c = again _ _ _ _ _ _ _ _ _ (c .before .before .before .before .before .before .before .before .before .before .before .before .loop .inv) (c .before .before .before .before .before .before .before .before .before .before .before .loop-test .taken) _ _ (sym (c .before .before .before .before .before .before .before .before .before .before .code-at .ensures) ∙ c .before .before .before .before .before .before .before .before .code .given .1) _ (rw rest at (c .before .before .before .payload .ensures)) _ (c .before .e .given .1)
 
 -- The body behind the fields of a compound and of an array
 
@@ -261,25 +272,31 @@ unfolding sure
     many-Inv-loop
     many-μ-loop
     (λ c. begin _ _ _ _ _)
+    (λ c. omega (arith, c .loop-test .taken))
     (λ c κs. c .before .loop .inv .inside)
     (λ c. search needs)
     (λ c. omega (arith, c .before .before .before .before .before .loop .inv .inside))
     (λ c κs. search needs)
     (λ c. let a = c .before .before .before .before .before .before .before .before .args in let o = c .before .before .before .before .before .before .loop in c .refuse .ensures ∙ stops (a .s .now) (a .head) (a .levels) (a .count) (a .place) (o .at) (o .rows) (o .text) (o .left) (o .inv) _ (c .before .before .before .before .before .loop-test .taken) (sym (c .before .before .before .before .code-at .ensures) ∙ c .before .before .number .given .1))
     (λ c. search needs)
-    (λ c. coded t c .0)
-    (λ c. omega (arith, coded t c .0))
-    (λ c. omega (arith, coded t c .0))
-    (λ c. omega (arith, c .before .before .before .before .before .before .loop .inv .inside))
-    (λ c κs. let s = c .before .before .before .before .before .before .before .before .args .s .now in omega (arith, coded t (c .before), part-length (c .before .before .code .given .0 .1 .0) (length s) s (coded t (c .before) .0) (omega arith)))
+    (λ c κs. search needs)
+    (λ c. omega (arith, coded t (c .before) .0))
+    (λ c. omega (arith, passed t c .inside))
+    (λ c. omega (arith, passed t c .inside, passed t c .height))
+    (λ c. omega (arith, c .before .before .before .before .before .before .loop-test .taken))
+    (λ c. passed t c)
+    (λ c. omega (arith, coded t (c .before .before) .0))
+    (λ c. omega (arith, coded t (c .before .before) .0))
+    (λ c. omega (arith, coded t (c .before .before) .0))
+    (λ c. omega (arith, c .before .before .before .before .before .before .before .before .loop .inv .inside))
+    (λ c κs. let s = c .before .before .before .before .before .before .before .before .before .before .args .s .now in omega (arith, coded t (c .before .before .before), part-length (c .before .before .before .before .code .given .0 .1 .0) (length s) s (coded t (c .before .before .before) .0) (omega arith)))
     (λ c. search needs)
-    (λ c. let a = c .before .before .before .before .before .before .before .before .before .before .before .before .args in let o = c .before .before .before .before .before .before .before .before .before .before .loop in fails (a .s .now) (a .head) (a .levels) (a .count) (a .place) (o .at) (o .rows) (o .text) (o .left) (o .inv) (c .before .before .before .before .before .before .before .before .before .loop-test .taken) _ _ (sym (c .before .before .before .before .before .before .before .before .code-at .ensures) ∙ c .before .before .before .before .before .before .code .given .1) _ (rw rest at (c .before .before .before .payload .ensures)) _ (c .before .f .given .1))
+    (λ c. let a = c .before .before .before .before .before .before .before .before .before .before .before .before .before .before .args in let o = c .before .before .before .before .before .before .before .before .before .before .before .before .loop in fails (a .s .now) (a .head) (a .levels) (a .count) (a .place) (o .at) (o .rows) (o .text) (o .left) (o .inv) (c .before .before .before .before .before .before .before .before .before .before .before .loop-test .taken) _ _ (sym (c .before .before .before .before .before .before .before .before .before .before .code-at .ensures) ∙ c .before .before .before .before .before .before .before .before .code .given .1) _ (rw rest at (c .before .before .before .payload .ensures)) _ (c .before .f .given .1))
     (λ c. search needs)
     (λ c. omega (arith, stepped t (c .before) .inside))
     (λ c. omega (arith, stepped t (c .before .before) .inside, stepped t (c .before .before) .height))
     (λ c. omega (arith, stepped t (c .before .before .before) .inside, stepped t (c .before .before .before) .letters))
-    (λ c. search needs)
-    (λ c. search needs)
+    (λ c. omega (arith, c .before .before .before .before .before .before .before .before .before .before .before .before .before .before .loop-test .taken))
     (λ c. stepped t (c .before .before .before))
     (λ c. end _ _ _ _ _ _ _ _ _ (c .before .loop .inv) (c .loop-test .left)))
     λ t. payload-lts.spec

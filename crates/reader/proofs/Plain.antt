@@ -1,0 +1,35 @@
+-- Scalars of which nothing but the length has to be looked at.
+use Prim.Native.Nat.{ℕ, zero, suc, _≤_, _<_}
+use mathlib.Core.Path.{_≡_, _∙_}
+use mathlib.Core.List.{List}
+use mathlib.Core.Bool.{not}
+use native.Mathlib.Omega.{arith}
+use borrow.Author.Tests.{le-leb}
+use lib.Dec.{T, leb}
+use lib.ListN.{length, take}
+use Rattle.standard.specs.Bytes.{unbe}
+use Rattle.standard.specs.Codes.{Layout, scalar, constant, whole, small, layoutOf, kindOf}
+use Rattle.standard.specs.Kinds.{fair}
+use Rattle.standard.specs.Read.{leaf, behind, payload}
+use Rattle.reader.specs.Entries.{judged}
+use Rattle.reader.specs.Measuring.{fits, measured, Plain}
+use Rattle.reader.proofs.Scalars.{unjudged, constant-is, whole-good, small-is}
+
+-- behind a code stands what its layout says
+behind-scalar : (c : ℕ) (k : ℕ) (y : Layout) (w : ℕ) → kindOf c ≡ k → layoutOf c ≡ y
+    → ((l p : ℕ) (r : List ℕ) → w ≤ length r → measured (length r) (behind (λ e q s. payload l e q s) l k p r y) ≡ fits w 1 0) → Plain c w
+unfolding payload
+behind-scalar c k y w e f g zero p r h i = absurd (omega arith)
+behind-scalar c k y w e f g (suc l) p r h i = rw (e, f) (g l p r i)
+
+pub plain-constant : (c k n : ℕ) → kindOf c ≡ k → layoutOf c ≡ scalar (constant n) → T (fair k n) → Plain c 0
+unfolding behind
+plain-constant c k n e f t = behind-scalar c k (scalar (constant n)) 0 e f (λ l p r i. constant-is k n p r t ∙ rw (le-leb 0 (length r) i))
+
+pub plain-whole : (c k w : ℕ) → kindOf c ≡ k → layoutOf c ≡ scalar (whole w) → T (not (judged k)) → Plain c w
+unfolding behind
+plain-whole c k w e f t = behind-scalar c k (scalar (whole w)) w e f (λ l p r i. whole-good w k p r i (unjudged k (unbe (take w r)) t))
+
+pub plain-small : (c k w : ℕ) → kindOf c ≡ k → layoutOf c ≡ scalar (small w) → T (not (judged k)) → Plain c 1
+unfolding behind
+plain-small c k w e f t = behind-scalar c k (scalar (small w)) 1 e f (λ l p r i. small-is w k p r t ∙ rw (le-leb 1 (length r) i))
