@@ -16,7 +16,7 @@ use Rattle.standard.specs.Listing.{newline, largeWords, lines, shown, inputMost
 use Rattle.standard.specs.Laws.Answers.{if-case, Left, out}
 use Rattle.standard.specs.Laws.Sound.{sound}
 use Rattle.standard.specs.Laws.Bounds.{rows-length, small}
-use Rattle.listing.specs.Lines.{endLine, refusedLine, Narrow, outputMost, Roomy}
+use Rattle.listing.specs.Lines.{endLine, refusedLine, Narrow, lineMost, outputMost, Roomy}
 use Rattle.listing.proofs.Decimals.{decimal-short}
 use Rattle.listing.proofs.Lines.{lines-short}
 use Rattle.listing.proofs.NarrowKinds.{rows-narrow}
@@ -50,6 +50,7 @@ listing-short l b = if-case (λ s. length s ≤ outputMost) (leb (length b) inpu
 pub record Listed (levels : ℕ) (input words : List ℕ) (size rows : ℕ) : Type 0 where
   pub few : rows ≤ inputMost
   pub narrow : Narrow (take (2 * rows) words)
+  pub short : length (lines 0 (take (2 * rows) words)) ≤ inputMost * lineMost
   pub shows : listing levels input ≡ lines 0 (take (2 * rows) words) ++ endLine size
 
 module _ (l : ℕ) (b : List ℕ) {w x o : List ℕ} (few : length b ≤ inputMost) (room : Roomy w x o) where
@@ -74,7 +75,7 @@ module _ (l : ℕ) (b : List ℕ) {w x o : List ℕ} (few : length b ≤ inputMo
           let k : words ≡ over (rows v) w = c ∙ ap (λ r. r .words) (read-value v z i) in
           let t : take (2 * tall v) (over (rows v) w) ≡ rows v = take-at (rows v) (drop (length (rows v)) w) (2 * tall v) (rows-length v) in
           let h = value-of l b v z i in
-          rw (j, k) (record { few = omega (arith, h .height); narrow = rw t (h .narrow); shows = rw (t, le-leb (length b) inputMost few, i) (simp append-assoc) })
+          rw (j, k) (record { few = omega (arith, h .height); narrow = rw t (h .narrow); short = rw t (omega (arith, h .height, lines-short 0 (rows v), rows-length v)); shows = rw (t, le-leb (length b) inputMost few, i) (simp append-assoc) })
       go (refuse n p) i =
           let q : _≡_ {A = Answer Extent} (got e) (refuse n p) = a ∙ ap (λ r. r .answer) (read-refusal n p i) in
           let z : _≡_ {A = ℕ} 0 1 = cc in

@@ -4,7 +4,7 @@ ghost use mathlib.Core.List.{[], _∷_};
 ghost use Prim.Native.Nat.{_+_, _<_, _≤_};
 ghost use lib.ListN.{length};
 ghost use Rattle.standard.specs.Listing.{decimal, hexDigit, hex, space, newline, line, lines};
-ghost use Rattle.listing.specs.Lines.{Put, endLine, refusedLine, Narrow};
+ghost use Rattle.listing.specs.Lines.{Put, endLine, refusedLine, Narrow, lineMost};
 
 // What a digit of 10 and more is added to.
 const LETTER: u8 = b'a' - 10;
@@ -99,7 +99,7 @@ pub(crate) fn put_lines(out: &mut [u8], at: usize, words: &[u64]) -> usize
 
 // The line behind the rows of a value: its length.
 pub(crate) fn put_end(out: &mut [u8], at: usize, size: u64) -> usize
-    requires { ⌜ at + length (endLine size) ≤ length (now out) ⌝ }
+    requires { ⌜ at + lineMost ≤ length (now out) ⌝ }
     ensures { λ r. ⌜ Put (endLine size) (now (out .entry)) at (now (out .exit)) r ⌝ }
 {
     let size_at = put_bytes(out, at, b"end");

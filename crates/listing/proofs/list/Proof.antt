@@ -1,18 +1,19 @@
 -- `list` puts what the listing shows of what was read.
 use borrow.Author.Needs.{needs}
 use Prim.Native.Nat.{_≤_}
-use mathlib.Core.Path.{_≡_, sym, ap}
+use mathlib.Core.Path.{_≡_, sym}
 use native.Mathlib.Omega.{arith}
-use lib.ListN.{length, length-append}
+use lib.ListN.{length}
 use lib.Seq.{length-take-le}
 use Rattle.standard.specs.Outcomes.{levelMost}
 use Rattle.standard.specs.Listing.{listing}
-use Rattle.listing.proofs.Puts.{then, whole}
 use Rattle.listing.specs.Lines.{refusedLine}
+use Rattle.listing.proofs.Puts.{then, whole}
 use Rattle.listing.proofs.Shown.{Listed, listed, refused, too-large, listing-short}
 use Rattle.listing.proofs.list.Statement.{statement}
 use Rattle.listing.proofs.list.Tie as tie
 
+-- the listing finds room
 fits : (c : tie.Start) → length (listing levelMost (c .args .bytes .now)) ≤ length (c .args .out .now)
 fits c = omega (arith, c .pre .outRoom, listing-short levelMost (c .args .bytes .now))
 
@@ -21,14 +22,14 @@ found : (c : tie.After-e) → Listed levelMost (c .before .before .before .befor
 found c =
     let r = c .before .before .before .before .before .before in
     let s = r .before .before .before .before .before .before .before .before in
-    listed levelMost (s .args .bytes .now) (r .before .before .before .if1 .left) (s .pre) _ _ (rw (c .e .given .1) at (r .read .ensures .0)) (r .read .ensures .1)
+    listed levelMost (s .args .bytes .now) (omega (arith, r .before .before .before .if1 .left)) (s .pre) _ _ (rw (c .e .given .1) at (r .read .ensures .0)) (r .read .ensures .1)
 
 -- and of an input that was refused
 declined : (c : tie.After-f) → listing levelMost (c .before .before .before .before .before .before .before .before .before .before .before .before .before .before .args .bytes .now) ≡ refusedLine (c .f .given .0 .0 .number) (c .f .given .0 .0 .place)
 declined c =
     let r = c .before .before .before .before .before .before in
     let s = r .before .before .before .before .before .before .before .before in
-    refused levelMost (s .args .bytes .now) (r .before .before .before .if1 .left) (s .pre) _ _ (rw (c .f .given .1) at (r .read .ensures .0))
+    refused levelMost (s .args .bytes .now) (omega (arith, r .before .before .before .if1 .left)) (s .pre) _ _ (rw (c .f .given .1) at (r .read .ensures .0))
 
 pub list-spec : {M : Type 1} → statement M
 list-spec =
@@ -37,14 +38,14 @@ list-spec =
     (λ c. search needs)
     (λ c κs. omega (arith, c .before .before .before .before .before .before .before .pre .outRoom))
     (λ c. search needs)
-    (λ c. rw (too-large levelMost (c .before .before .before .before .before .before .before .before .before .before .args .bytes .now) (c .before .before .before .before .before .if1 .taken)) (whole (omega (arith, c .before .before .before .before .before .before .before .before .before .before .pre .outRoom)) (c .before .before .put-bytes .ensures)))
+    (λ c. rw (too-large levelMost (c .before .before .before .before .before .before .before .before .before .before .args .bytes .now) (omega (arith, c .before .before .before .before .before .if1 .taken))) (whole (omega (arith, c .before .before .before .before .before .before .before .before .before .before .pre .outRoom)) (c .before .before .put-bytes .ensures)))
     (λ c κs. search needs)
     (λ c. search needs)
     (λ c. omega (arith, found (c .before .before) .few))
     (λ c. omega (arith, found (c .before .before .before) .few, c .before .before .before .before .before .before .before .before .before .before .before .before .before .before .before .before .before .pre .rowRoom, c .before .before .before .before .before .before .before .before .before .read .kept .1 .0))
     (λ c. sym (length-take-le _ _ (omega (arith, found (c .before .before .before .before) .few, c .before .before .before .before .before .before .before .before .before .before .before .before .before .before .before .before .before .before .pre .rowRoom, c .before .before .before .before .before .before .before .before .before .before .read .kept .1 .0))))
-    (λ c κs. (found (c .before .before .before .before) .narrow, omega (arith, fits (c .before .before .before .before .before .before .before .before .before .before .before .before .before .before .before .before .before .before), simp length-append at (ap length (found (c .before .before .before .before) .shows)))))
-    (λ c κs. simp length-append (omega (arith, fits (c .before .before .before .before .before .before .before .before .before .before .before .before .before .before .before .before .before .before .before .before .before .before), simp length-append at (ap length (found (c .before .before .before .before .before .before .before .before) .shows)), c .before .before .before .put-lines .kept .0, c .before .before .before .put-lines .ensures .end)))
+    (λ c κs. (found (c .before .before .before .before) .narrow, omega (arith, c .before .before .before .before .before .before .before .before .before .before .before .before .before .before .before .before .before .before .pre .outRoom, found (c .before .before .before .before) .short)))
+    (λ c κs. omega (arith, c .before .before .before .before .before .before .before .before .before .before .before .before .before .before .before .before .before .before .before .before .before .before .pre .outRoom, found (c .before .before .before .before .before .before .before .before) .short, c .before .before .before .put-lines .kept .0, c .before .before .before .put-lines .ensures .end))
     (λ c. search needs)
     (λ c κs. omega (arith, rw (declined (c .before .before)) at (fits (c .before .before .before .before .before .before .before .before .before .before .before .before .before .before .before .before))))
     (λ c. search needs)
