@@ -165,5 +165,6 @@ fn main() {
     replay(Entry::Write, b"own_write.txt");
     replay(Entry::Read, b"read.txt");
     replay(Entry::Read, b"read_room.txt");
+    replay(Entry::Read, b"own_read.txt");
     replay(Entry::Walk, b"walk.txt");
 }
