@@ -1,5 +1,6 @@
 """The form of the stored cases (data/README.md): fields of a line to words and bytes, and back."""
 import itertools
+import os
 
 
 def with_runs(field, one):
@@ -58,3 +59,16 @@ def cases_in(path):
             line = line.rstrip('\n')
             if line and not line.startswith('#'):
                 yield number, line
+
+
+def store(name, sections):
+    """Writes a file of data/: for each section its heading and its cases, each case once."""
+    seen = set()
+    with open(os.path.join(os.path.dirname(os.path.abspath(__file__)), 'data', name), 'w', encoding='utf-8') as file:
+        for heading, cases in sections:
+            file.write(f'# {heading}\n')
+            for line in cases():
+                if line not in seen:
+                    file.write(line + '\n')
+                seen.add(line)
+    print(f'{name}: {len(seen)} cases')

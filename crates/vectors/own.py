@@ -3,11 +3,10 @@
 
 The tables are chosen here, by docs/FORMAT.md, sections 2, 3 and 5, and by one limit of the code; the answers are those of model.py.
 """
-import os
 import sys
 
 sys.dont_write_bytecode = True
-from form import bytes_field, words_field, words_of
+from form import bytes_field, store, words_field, words_of
 from model import BLOBS, COMPOUNDS, ELEMENTS, KINDS, MOST, NULL, Refused, TEXTS, WIDTHS, encode, write
 
 REFUSED_ROOM = 16       # bytes of output for a table that is refused
@@ -244,18 +243,6 @@ SMALL = [
     ('6: texts and their lengths', texts), ('6: sequences of UTF-8', sequences), ('bodies and counts', bodies),
     ('described values', described), ('the order of refusals', order), ('8: rooms', rooms)]
 BIG = [('7: too long', too_long)]
-
-
-def store(name, sections):
-    seen = set()
-    with open(os.path.join(os.path.dirname(os.path.abspath(__file__)), 'data', name), 'w', encoding='utf-8') as file:
-        for heading, cases in sections:
-            file.write(f'# {heading}\n')
-            for line in cases():
-                if line not in seen:
-                    file.write(line + '\n')
-                seen.add(line)
-    print(f'{name}: {len(seen)} cases')
 
 
 store('own_write.txt', SMALL)

@@ -3,11 +3,10 @@
 
 The bytes are chosen here, by docs/FORMAT.md, sections 4 and 5; the answers are those of read_model.py.
 """
-import os
 import sys
 
 sys.dont_write_bytecode = True
-from form import bytes_field
+from form import bytes_field, store
 from model import Refused
 from read_model import CODES, ELEMENT_CODES, measure, read
 
@@ -133,12 +132,4 @@ def rooms():
 SECTIONS = [('every code', every_code), ('numbers', numbers), ('texts', texts), ('sizes and counts', sizes), ('arrays', arrays),
             ('levels', levels), ('rooms', rooms)]
 
-seen = set()
-with open(os.path.join(os.path.dirname(os.path.abspath(__file__)), 'data', 'own_read.txt'), 'w', encoding='utf-8') as file:
-    for heading, cases in SECTIONS:
-        file.write(f'# {heading}\n')
-        for line in cases():
-            if line not in seen:
-                file.write(line + '\n')
-            seen.add(line)
-print(f'own_read.txt: {len(seen)} cases')
+store('own_read.txt', SECTIONS)

@@ -11,14 +11,14 @@ use lib.ListN.{length, take, drop, length-drop}
 use lib.Seq.{length-take-le}
 use Rattle.standard.specs.Answer.{got, refuse, at, inputShort, payloadBad}
 use Rattle.standard.specs.Choose.{if}
-use Rattle.standard.specs.Text.{flawless, isFlawless, utf8, ascii, faultDue, faultIn}
+use Rattle.standard.specs.Text.{flawless, isFlawless, utf8, ascii, faultIn}
 use Rattle.standard.specs.Bytes.{unbe}
 use Rattle.standard.specs.Codes.{Scalar, constant, whole, small, raw, sized}
 use Rattle.standard.specs.Kinds.{fair, flaw, clean}
 use Rattle.standard.specs.Grammar.{extend}
 use Rattle.standard.specs.Tree.{tall, text}
 use Rattle.standard.specs.Read.{plain, leaf}
-use Rattle.standard.specs.Laws.Answers.{T-true}
+use Rattle.standard.specs.Laws.Answers.{T-true, clean-nil}
 use Rattle.reader.specs.Entries.{judged, spelt}
 use Rattle.reader.specs.Measuring.{fits, refused, measured, block}
 use Rattle.reader.proofs.Rooms.{cut-short, cut-got, back}
@@ -42,15 +42,6 @@ unfolding fair
 fair-zero k = both (eqb k 0x56) (eqb k 0x73)
   where
     both : (a b : Bool) → if a true (if b true true) ≡ true
-    both true b = refl
-    both false true = refl
-    both false false = refl
-
-pub clean-nil : (k : ℕ) → clean k [] ≡ true
-unfolding flaw faultDue
-clean-nil k = both (eqb k 0xb1) (eqb k 0xb3)
-  where
-    both : (a b : Bool) → isFlawless (if a flawless (if b flawless flawless)) ≡ true
     both true b = refl
     both false true = refl
     both false false = refl

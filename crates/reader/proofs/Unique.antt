@@ -14,16 +14,13 @@ use contract.Monad.{Fun, fact}
 use denote.Ref.{RefT, now}
 use Rattle.standard.specs.Outcomes as outcome
 use Rattle.standard.specs.Outcomes.{levelMost}
-use Rattle.standard.specs.declared.refusal.Refusal.{Refusal}
+use Rattle.standard.specs.Laws.Answers.{same-refusal}
 use Rattle.reader.specs.InCode.{measuredIs}
 use Rattle.reader.specs.declared.measuring.Extent.{Extent}
 use Rattle.reader.specs.declared.measuring.Measured.{Measured}
 use Rattle.reader.specs.declared.measuring.Measured.the-variants.{Fits, Refused}
 use Rattle.reader.proofs.measuring.measure as measure
 use Rattle.reader.proofs.reading.read as read
-
-same-refusal : (f g : Refusal) → f .number ≡ g .number → f .place ≡ g .place → f ≡ g
-same-refusal f g n p i = record { number = n i; place = p i }
 
 same-extent : (e d : Extent) → e .length ≡ d .length → e .rows ≡ d .rows → e .text ≡ d .text → e ≡ d
 same-extent e d n i t j = record { length = n j; rows = i j; text = t j }

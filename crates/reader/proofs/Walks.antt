@@ -23,6 +23,7 @@ use Rattle.standard.specs.Grammar.{Form, Formed, coded′}
 use Rattle.standard.specs.Outcomes as outcome
 use Rattle.standard.specs.Outcomes.{Extent, extent, measure, end, part, refused, stepped, stepIn, levelMost}
 use Rattle.standard.specs.Laws.Unique.{front-complete}
+use Rattle.standard.specs.Laws.Answers.{same-refusal}
 use Rattle.standard.specs.declared.refusal.Refusal.{Refusal}
 use Rattle.reader.specs.InCode.{stepIs, steppedIs}
 use Rattle.reader.specs.Walking.{handed, stepOf, NextOf}
@@ -39,9 +40,6 @@ use Rattle.reader.proofs.walker.Walker.new as new
 use Rattle.reader.proofs.walker.Walker.next as next
 
 -- One outcome
-
-same-refusal : (f g : Refusal) → f .number ≡ g .number → f .place ≡ g .place → f ≡ g
-same-refusal f g n p i = record { number = n i; place = p i }
 
 -- an answer of the code is told by what it says
 one-step : (a b : Step) → stepIs a ≡ stepIs b → a ≡ b

@@ -11,13 +11,12 @@ use lib.Seq.{sets}
 use Rattle.standard.specs.Choose.{if}
 use Rattle.standard.specs.Answer.{Answer, got, refuse, at}
 use Rattle.standard.specs.Bytes.{be}
-use Rattle.standard.specs.Text.{flawless, isFlawless, utf8, ascii, faultDue, faultIn}
 use Rattle.standard.specs.Tree.{node, Trees, none, more}
-use Rattle.standard.specs.Kinds.{Style, foreign, numbered, blob, lettered, listed, mapped, arrayed, describing, kinds, styleOf, isKind, plain, flaw, clean}
+use Rattle.standard.specs.Kinds.{Style, foreign, numbered, blob, lettered, listed, mapped, arrayed, describing, kinds, styleOf, isKind, plain}
 use Rattle.standard.specs.Table.{Spot, any, first, like, allowed, ranged, letters, children, firstIn, next, All, Valid, several, tree}
 use Rattle.standard.specs.Encode.{shortEnd, payloads}
 use Rattle.standard.specs.Laws.Numbers.{length-be}
-use Rattle.standard.specs.Laws.Answers.{if-case, T-true, and-left, and-right}
+use Rattle.standard.specs.Laws.Answers.{if-case, T-true, and-left, and-right, clean-nil}
 use Rattle.writer.specs.Heads.{enclosure, head, itemWidth}
 use Rattle.writer.specs.Marks.{markWidth, marks, marks*}
 use Rattle.writer.specs.Filling.{elementsOf}
@@ -34,13 +33,6 @@ use Rattle.writer.proofs.Checks.{check-good}
 use Rattle.writer.proofs.Flat.{plain-leaf}
 use Rattle.writer.proofs.Sums.{mark-small, below, Entered, entered-none, entered-some, sure-next, turn-within, turn-comes, turn-sure, turn-no, comes-on, taken, stands, check-allowed, check-ranged, check-front}
 
--- no text is clean
-no-fault : (k : ℕ) → clean k [] ≡ true
-unfolding flaw faultDue
-no-fault k =
-    if-case (λ f. isFlawless f ≡ true) (eqb k 0xb1) (faultIn utf8 []) (if (eqb k 0xb3) (faultIn ascii []) flawless) (λ t. refl)
-    (λ t. if-case (λ f. isFlawless f ≡ true) (eqb k 0xb3) (faultIn ascii []) flawless (λ y. refl) (λ y. refl))
-
 -- Rows without text
 
 record Bare (s : Style) (k n : ℕ) : Type 0 where
@@ -56,7 +48,7 @@ record Front (l : ℕ) (w : List ℕ) (k n : ℕ) : Type 0 where
 
 bare-check : (l i k n : ℕ) (w x : List ℕ) → Front l w k n → Bare (styleOf k) k n → check l any i w x ≡ got (k, n)
 unfolding allowed
-bare-check l i k n w x f g = rw (f .words) (check-good any i k n (drop 2 w) x (g .known) refl (g .inRange) l (f .level) (rw (g .silent) (omega arith)) (rw (g .silent) (no-fault k)))
+bare-check l i k n w x f g = rw (f .words) (check-good any i k n (drop 2 w) x (g .known) refl (g .inRange) l (f .level) (rw (g .silent) (omega arith)) (rw (g .silent) (clean-nil k)))
 
 -- A number
 

@@ -13,15 +13,12 @@ use contract.Monad.{Fun, fact}
 use denote.Ref.{RefT, now}
 use Rattle.standard.specs.Outcomes as outcome
 use Rattle.standard.specs.Outcomes.{levelMost}
-use Rattle.standard.specs.declared.refusal.Refusal.{Refusal}
+use Rattle.standard.specs.Laws.Answers.{same-refusal}
 use Rattle.writer.specs.InCode.{writtenIs}
 use Rattle.writer.specs.declared.Written.{Written}
 use Rattle.writer.specs.declared.Written.the-variants.{Length, Refused}
 use Rattle.writer.proofs.size as size
 use Rattle.writer.proofs.write as write
-
-same-refusal : (f g : Refusal) → f .number ≡ g .number → f .place ≡ g .place → f ≡ g
-same-refusal f g n p i = record { number = n i; place = p i }
 
 -- an answer of the code is told by what it says
 one-answer : (r s : Written) → writtenIs r ≡ writtenIs s → r ≡ s

@@ -10,9 +10,10 @@ use Rattle.standard.specs.Answer.{Answer, got, refuse, Place, at, _>>=_, output
 use Rattle.standard.specs.Tree.{Tree, none, more, rows, text}
 use Rattle.standard.specs.Table.{any, tree, table}
 use Rattle.standard.specs.Encode.{encode}
-use Rattle.standard.specs.Outcomes.{over, bytesOf, size, Writing, writtenTo, write}
+use Rattle.standard.specs.Outcomes.{bytesOf, size, Writing, writtenTo, write}
 use Rattle.standard.specs.Laws.Bounds.{rows-length}
 use Rattle.standard.specs.Laws.Tables.{tree-complete, table-holds}
+use Rattle.standard.specs.Laws.Stores.{front-over}
 use Rattle.writer.specs.Marks.{marks}
 use Rattle.writer.specs.Sizing.{Marked, values}
 use Rattle.writer.specs.Filling.{flat, Fillable}
@@ -37,11 +38,6 @@ covered d i xs ys e h =
     let f : drop (length ys) (sets d i xs) ≡ drop (length ys) d = around d i xs (length ys) e h .1 in
     let z : 0 + length ys ≡ length ys = omega arith in
     sets-eq ys (sets d i xs) 0 (rw length-sets (omega arith)) ∙ rw (z, f) (sym (sets-eq ys d 0 (omega arith) ∙ rw z))
-
-front-over : (d ys : List ℕ) → length ys ≤ length d → sets d 0 ys ≡ over ys d
-front-over d ys h =
-    let z : 0 + length ys ≡ length ys = omega arith in
-    sets-eq ys d 0 (omega arith) ∙ rw z
 
 table-values : (l : ℕ) (w x : List ℕ) (v : Tree) → table l w x ≡ got v → values w x l any 1 0 0 ≡ got (more v none, [], [])
 table-values l w x v e =

@@ -4,9 +4,12 @@ use mathlib.Core.Path.{_≡_, refl}
 use mathlib.Core.List.{List, [], _∷_, _++_}
 use mathlib.Core.Bool.{Bool, true, false, not, _&&_}
 use borrow.Author.Tests.{ne-eqb}
-use lib.Dec.{T}
+use lib.Dec.{T, eqb}
 use Rattle.standard.specs.Answer.{Answer, got, refuse, Place, _>>=_, need}
 use Rattle.standard.specs.Choose.{if, lookup}
+use Rattle.standard.specs.Text.{flawless, isFlawless, faultDue}
+use Rattle.standard.specs.Kinds.{flaw, clean}
+use Rattle.standard.specs.declared.refusal.Refusal.{Refusal}
 
 pub T-true : (b : Bool) → T b → b ≡ true
 T-true true t = refl
@@ -60,3 +63,17 @@ pub record Left (P : List ℕ → Type 0) (r back : List ℕ) : Type 0 where
   pub front : List ℕ
   pub split : r ≡ front ++ back
   pub holds : P front
+
+-- a row without text is clean, whatever its kind
+pub clean-nil : (k : ℕ) → clean k [] ≡ true
+unfolding flaw faultDue
+clean-nil k = both (eqb k 0xb1) (eqb k 0xb3)
+  where
+    both : (a b : Bool) → isFlawless (if a flawless (if b flawless flawless)) ≡ true
+    both true b = refl
+    both false true = refl
+    both false false = refl
+
+-- a refusal of the code is its number and its place
+pub same-refusal : (f g : Refusal) → f .number ≡ g .number → f .place ≡ g .place → f ≡ g
+same-refusal f g n p i = record { number = n i; place = p i }
