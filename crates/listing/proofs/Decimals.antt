@@ -9,7 +9,7 @@ use lib.Dec.{ltb}
 use lib.ListN.{length, length-append}
 use Rattle.io.specs.Digits.{digits, Fewest}
 use Rattle.standard.specs.Listing.{decimalIn}
-use Rattle.standard.specs.Laws.Answers.{if-case}
+use Rattle.standard.specs.Facts.{if-case}
 
 -- no more digits than asked for
 pub decimal-short : (d n : ℕ) → length (decimalIn d n) ≤ d

@@ -8,7 +8,7 @@ use Rattle.standard.specs.Choose.{lookup}
 use Rattle.standard.specs.Codes.{Entry, Layout, codes, entryOf, kindOf}
 use Rattle.standard.specs.Tree.{Tree, Trees, rows, rows*}
 use Rattle.standard.specs.Grammar.{Many, none′, more′, leaf′, Coded, coded′, Items, empty′, items′, Shape, scalar′, described′, compound′, array′, Payload, Form}
-use Rattle.standard.specs.Laws.Answers.{if-case, and-left, and-right}
+use Rattle.standard.specs.Facts.{if-case, and-left, and-right}
 use Rattle.listing.specs.Lines.{Narrow}
 
 -- a test of the whole table of codes

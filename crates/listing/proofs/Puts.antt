@@ -6,7 +6,7 @@ use native.Mathlib.Omega.{arith}
 use lib.ListN.{length, take, drop, getD, set, length-append}
 use lib.Seq.{sets, length-sets, drop-cons, take-append-seam}
 use Rattle.standard.specs.Outcomes.{over}
-use Rattle.standard.specs.Laws.Stores.{sets-append, put-on, front-over}
+use Rattle.laws.specs.Stores.{sets-append, put-on, front-over}
 use Rattle.listing.specs.Lines.{Put}
 
 module _ {xs a b : List ℕ} {i j : ℕ} (p : Put xs a i b j) where

@@ -13,9 +13,10 @@ use Rattle.standard.specs.Grammar.{Form}
 use Rattle.standard.specs.Read.{front}
 use Rattle.standard.specs.Outcomes.{over, Extent, extent, readInto, read}
 use Rattle.standard.specs.Listing.{newline, largeWords, lines, shown, inputMost, listing}
-use Rattle.standard.specs.Laws.Answers.{if-case, Left, out}
-use Rattle.standard.specs.Laws.Sound.{sound}
-use Rattle.standard.specs.Laws.Bounds.{rows-length, small}
+use Rattle.standard.specs.Facts.{if-case}
+use Rattle.laws.specs.Answers.{Left, out}
+use Rattle.laws.specs.Sound.{sound}
+use Rattle.laws.specs.Bounds.{rows-length, small}
 use Rattle.listing.specs.Lines.{endLine, refusedLine, Narrow, lineMost, outputMost, Roomy}
 use Rattle.listing.proofs.Decimals.{decimal-short}
 use Rattle.listing.proofs.Lines.{lines-short}

@@ -12,7 +12,7 @@ use Rattle.standard.specs.Kinds.{fair}
 use Rattle.standard.specs.InCode.{layoutIs, entryIs}
 use Rattle.standard.specs.declared.format_code.Layout.{Layout}
 use Rattle.standard.specs.declared.format_code.Entry.{Entry}
-use Rattle.standard.specs.Laws.Answers.{and-left, and-right, if-case}
+use Rattle.standard.specs.Facts.{and-left, and-right, if-case}
 use Rattle.reader.specs.Entries.{narrow, usual, sure}
 
 all : {A : Type 0} → (A → Bool) → List A → Bool

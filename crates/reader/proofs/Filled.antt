@@ -12,10 +12,10 @@ use Rattle.standard.specs.Answer.{Answer, got, refuse, Place, at, _>>=_, need}
 use Rattle.standard.specs.Tree.{rows, text}
 use Rattle.standard.specs.Read.{front}
 use Rattle.standard.specs.Outcomes.{levelMost, over}
-use Rattle.standard.specs.Laws.Bounds.{rows-length}
-use Rattle.standard.specs.Laws.Stores.{put-on, front-over}
-use Rattle.standard.specs.Laws.Flat.{Head, Run, run, push, Step, stepOf, flat}
-use Rattle.standard.specs.Laws.Flow.{read-flow}
+use Rattle.laws.specs.Bounds.{rows-length}
+use Rattle.laws.specs.Stores.{put-on, front-over}
+use Rattle.laws.specs.Flat.{Head, Run, run, push, Step, stepOf, flat}
+use Rattle.laws.specs.Flow.{read-flow}
 use Rattle.reader.specs.Filling.{Lands, headIs, keptIs, dueIs, Kept, Topped, stepIs, RowFound, Fillable, rowsIn, textIn}
 use Rattle.reader.specs.declared.filling.Row.{Row}
 use Rattle.reader.specs.declared.filling.Due.{Due}

@@ -16,7 +16,7 @@ use Rattle.standard.specs.Codes as codes
 use Rattle.standard.specs.Codes.{Scalar, Layout, unknown, described, scalar, compound, array, isCode, element, entryOf, layoutOf, kindOf}
 use Rattle.standard.specs.Kinds.{paired, named}
 use Rattle.standard.specs.Read.{leaf, many, done, fields, held, items, inside, behind, payload}
-use Rattle.standard.specs.Laws.Answers.{Holds, yes′, weaken}
+use Rattle.laws.specs.Answers.{Holds, yes′, weaken}
 use Rattle.reader.specs.Measuring.{fits, refused, measured, several, contents, above, closed, heldAt, below, reads, elementOf, Within}
 use Rattle.reader.specs.InCode.{bodyIn, bodyIs}
 use Rattle.standard.specs.InCode.{layoutIs, entryIs}

@@ -9,7 +9,7 @@ use lib.Seq.{take-all, take-take, drop-drop, drop-cons, length-take-le, drop-len
 use Rattle.standard.specs.Answer.{got, refuse, at, tooDeep, inputShort, sizeAmiss}
 use Rattle.standard.specs.Bytes.{unbe}
 use Rattle.standard.specs.Read.{cut, fields}
-use Rattle.standard.specs.Laws.Stores.{drop-take}
+use Rattle.laws.specs.Stores.{drop-take}
 use Rattle.reader.specs.Measuring.{codeAt}
 use Rattle.reader.specs.declared.measuring.Head.{Head}
 use Rattle.reader.specs.declared.measuring.Head.the-variants.{Own, Under}

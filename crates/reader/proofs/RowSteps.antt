@@ -15,8 +15,8 @@ use Rattle.standard.specs.Codes.{Scalar, constant, whole, small, raw, sized, La
 use Rattle.standard.specs.Grammar.{extend}
 use Rattle.standard.specs.Read.{cut, plain, fields}
 use Rattle.standard.specs.InCode.{layoutIs, entryIs}
-use Rattle.standard.specs.Laws.Numbers.{spelled}
-use Rattle.standard.specs.Laws.Flat.{own, under, row, opened, behindStep, stepOf}
+use Rattle.laws.specs.Numbers.{spelled}
+use Rattle.laws.specs.Flat.{own, under, row, opened, behindStep, stepOf}
 use Rattle.standard.specs.declared.format_code.Entry.{Entry}
 use Rattle.standard.specs.declared.format_code.Layout as in-code
 use Rattle.reader.specs.Entries.{sure}

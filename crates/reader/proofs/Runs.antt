@@ -6,8 +6,8 @@ use native.Mathlib.Omega.{arith}
 use lib.ListN.{length, getD, set, length-set}
 use lib.Seq.{getD-set-same, getD-set-other}
 use Rattle.standard.specs.Outcomes.{levelMost}
-use Rattle.standard.specs.Laws.Flat.{Head, Run, run, push}
-use Rattle.standard.specs.Laws.Flow.{push-length}
+use Rattle.laws.specs.Flat.{Head, Run, run, push}
+use Rattle.laws.specs.Flow.{push-length}
 use Rattle.reader.specs.Filling.{headIs, keptIs, dueIs, Kept, Topped}
 use Rattle.reader.specs.declared.filling.Due.{Due}
 

@@ -18,7 +18,7 @@ use Rattle.standard.specs.Kinds.{fair, flaw, clean}
 use Rattle.standard.specs.Grammar.{extend}
 use Rattle.standard.specs.Tree.{tall, text}
 use Rattle.standard.specs.Read.{plain, leaf}
-use Rattle.standard.specs.Laws.Answers.{T-true, clean-nil}
+use Rattle.standard.specs.Facts.{T-true, clean-nil}
 use Rattle.reader.specs.Entries.{judged, spelt}
 use Rattle.reader.specs.Measuring.{fits, refused, measured, block}
 use Rattle.reader.proofs.Rooms.{cut-short, cut-got, back}

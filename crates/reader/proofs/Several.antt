@@ -10,9 +10,9 @@ use Rattle.standard.specs.Answer.{Answer, got, refuse, at, _>>=_, tooDeep, inpu
 use Rattle.standard.specs.Tree.{Tree, Trees, none, more, tall, tall*, text, text*}
 use Rattle.standard.specs.Grammar.{coded′}
 use Rattle.standard.specs.Read.{many, coded, payload}
-use Rattle.standard.specs.Laws.Answers.{Holds, yes′, no′, on, weaken, out}
-use Rattle.standard.specs.Laws.Bounds.{small}
-use Rattle.standard.specs.Laws.Sound.{payload-sound}
+use Rattle.laws.specs.Answers.{Holds, yes′, no′, on, weaken, out}
+use Rattle.laws.specs.Bounds.{small}
+use Rattle.laws.specs.Sound.{payload-sound}
 use Rattle.reader.specs.Measuring.{fits, refused, measured, several, reads, reach, codeAt, Roomy, Plain}
 use Rattle.reader.specs.declared.measuring.Extent.{Extent}
 use Rattle.standard.specs.declared.refusal.Refusal.{Refusal}

@@ -10,7 +10,7 @@ use Rattle.standard.specs.Answer.{Answer, got, refuse, _>>=_}
 use Rattle.standard.specs.Tree.{Tree}
 use Rattle.standard.specs.Read.{front}
 use Rattle.standard.specs.Outcomes.{Extent, extent, measure, end, Stepping, stepped, stepIn, step, levelMost}
-use Rattle.standard.specs.Laws.Answers.{Holds, yes′, no′, out}
+use Rattle.laws.specs.Answers.{Holds, yes′, no′, out}
 use Rattle.reader.specs.InCode.{measuredIs, stepIs, steppedIs}
 use Rattle.reader.specs.Walking.{Inside, Part, stepOf, NextOf}
 use Rattle.reader.specs.declared.measuring.Extent as code

@@ -14,7 +14,7 @@ use contract.Monad.{Fun, fact}
 use denote.Ref.{RefT, now}
 use Rattle.standard.specs.Outcomes as outcome
 use Rattle.standard.specs.Outcomes.{levelMost}
-use Rattle.standard.specs.Laws.Answers.{same-refusal}
+use Rattle.standard.specs.Facts.{same-refusal}
 use Rattle.reader.specs.InCode.{measuredIs}
 use Rattle.reader.specs.declared.measuring.Extent.{Extent}
 use Rattle.reader.specs.declared.measuring.Measured.{Measured}

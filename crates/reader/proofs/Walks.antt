@@ -22,8 +22,8 @@ use Rattle.standard.specs.Answer.{Answer, got, refuse}
 use Rattle.standard.specs.Grammar.{Form, Formed, coded′}
 use Rattle.standard.specs.Outcomes as outcome
 use Rattle.standard.specs.Outcomes.{Extent, extent, measure, end, part, refused, stepped, stepIn, levelMost}
-use Rattle.standard.specs.Laws.Unique.{front-complete}
-use Rattle.standard.specs.Laws.Answers.{same-refusal}
+use Rattle.laws.specs.Unique.{front-complete}
+use Rattle.standard.specs.Facts.{same-refusal}
 use Rattle.standard.specs.declared.refusal.Refusal.{Refusal}
 use Rattle.reader.specs.InCode.{stepIs, steppedIs}
 use Rattle.reader.specs.Walking.{handed, stepOf, NextOf}

@@ -10,7 +10,7 @@ use Rattle.standard.specs.Tree.{Tree, rows, text, tall}
 use Rattle.standard.specs.Codes.{kindOf, layoutOf}
 use Rattle.standard.specs.Read.{front}
 use Rattle.standard.specs.Outcomes.{levelMost}
-use Rattle.standard.specs.Laws.Flat.{Head, own, under, Run, push, Step, row, behindStep}
+use Rattle.laws.specs.Flat.{Head, own, under, Run, push, Step, row, behindStep}
 use Rattle.reader.specs.declared.filling.Row.{Row}
 use Rattle.reader.specs.declared.filling.Due.{Due}
 use Rattle.reader.specs.declared.filling.Code.{Code}

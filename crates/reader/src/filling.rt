@@ -12,7 +12,7 @@ ghost use Rattle.standard.specs.Codes.{kindOf, layoutOf, array};
 ghost use Rattle.standard.specs.Grammar.{extend};
 ghost use Rattle.standard.specs.Read.{front};
 ghost use Rattle.standard.specs.Outcomes.{levelMost, over};
-ghost use Rattle.standard.specs.Laws.Flat.{push, stepOf, behindStep};
+ghost use Rattle.laws.specs.Flat.{push, stepOf, behindStep};
 ghost use Rattle.reader.specs.Entries.{narrow};
 ghost use Rattle.reader.specs.Filling.{Lands, leafRow, parentRow, headIs, keptIs, dueIs, Kept, Topped, RowFound, CodeFound, Fillable, rowsIn, textIn};
 use crate::number::byte;

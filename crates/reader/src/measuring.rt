@@ -23,7 +23,6 @@ use standard::format_code::Layout;
 use standard::kind;
 use standard::refusal;
 use standard::refusal::Refusal;
-use standard::text;
 
 // The length in bytes of a value, and the rows and the bytes of text that it reads to.
 pub struct Extent {

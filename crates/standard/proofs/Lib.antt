@@ -1,4 +1,2 @@
 pub mod Lookup
 pub mod Widths
-pub mod Sequences
-pub mod Ascii

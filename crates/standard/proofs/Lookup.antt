@@ -3,7 +3,7 @@ use Prim.Native.Nat.{ℕ}
 use mathlib.Core.Path.{_≡_, refl}
 use mathlib.Core.List.{List, [], _∷_}
 use Rattle.standard.specs.Choose.{lookup}
-use Rattle.standard.specs.Laws.Answers.{Absent, lookup-missing}
+use Rattle.standard.specs.Facts.{Absent, lookup-missing}
 
 -- what the last arm is told: the last key stands outermost
 abbrev pub Rest : List ℕ → ℕ → Type 0

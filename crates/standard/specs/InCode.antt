@@ -1,7 +1,6 @@
 -- What the code's own types say, in the terms of the definitions. The promises of the leaf functions go through these.
 use Prim.Native.Nat.{ℕ}
 use Rattle.standard.specs.Answer.{Answer, refuse, at}
-use Rattle.standard.specs.Text
 use Rattle.standard.specs.Codes
 use Rattle.standard.specs.Kinds
 use Rattle.standard.specs.declared.refusal.Refusal.{Refusal}
@@ -12,8 +11,6 @@ use Rattle.standard.specs.declared.kind.Short.{Short}
 use Rattle.standard.specs.declared.kind.Short.the-variants.{Never, Flag, Unsigned, Signed}
 use Rattle.standard.specs.declared.kind.Style.{Style}
 use Rattle.standard.specs.declared.kind.Style.the-variants.{Foreign, Numbered, Blob, Lettered, Listed, Mapped, Arrayed, Describing}
-use Rattle.standard.specs.declared.text.Fault.{Fault}
-use Rattle.standard.specs.declared.text.Fault.the-variants.{Flawless, At}
 
 abbrev pub refusalIs : {A : Type 0} → Refusal → Answer A
 refusalIs r = refuse (r .number) (at (r .place))
@@ -47,7 +44,3 @@ styleIs (Listed e s) = Kinds.listed e s
 styleIs (Mapped s) = Kinds.mapped s
 styleIs (Arrayed s) = Kinds.arrayed s
 styleIs Describing = Kinds.describing
-
-abbrev pub faultIs : Fault → Text.Fault
-faultIs Flawless = Text.flawless
-faultIs (At p) = Text.fault p

@@ -1,4 +1,4 @@
--- What a reader must believe, in reading order; Laws are what is proved of it.
+-- What a reader must believe, in reading order.
 pub mod Answer
 pub mod Choose
 pub mod Bytes
@@ -13,6 +13,5 @@ pub mod Encode
 pub mod Outcomes
 pub mod Listing
 pub mod InCode
-pub mod TextSteps
-pub mod Laws
+pub mod Facts
 pub mod Examples

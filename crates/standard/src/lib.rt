@@ -1,6 +1,5 @@
-// The leaves of the codec: format codes, kinds of rows, the text check and the refusals.
+// The leaves of the codec: format codes, kinds of rows and refusals.
 // Each function is total, and its promise is an equation to a definition of specs/.
 pub mod format_code;
 pub mod kind;
 pub mod refusal;
-pub mod text;

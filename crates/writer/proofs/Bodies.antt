@@ -12,8 +12,8 @@ use Rattle.standard.specs.Tree.{Trees, none, count}
 use Rattle.standard.specs.Kinds.{Short, never, flag, unsigned, signed, kinds, Style, foreign, numbered, blob, lettered, listed, mapped, arrayed, describing, styleOf, isKind, plain}
 use Rattle.standard.specs.Table.{letters, children}
 use Rattle.standard.specs.Encode.{fitsByte, shortEnd, shortest, enclosed, compact, wide, headed, encode*, payloads}
-use Rattle.standard.specs.Laws.Numbers.{length-be, unbe-be}
-use Rattle.standard.specs.Laws.Written.{no-children, no-text}
+use Rattle.laws.specs.Numbers.{length-be, unbe-be}
+use Rattle.laws.specs.Written.{no-children, no-text}
 use Rattle.writer.specs.Heads.{enclosure, head, itemWidth, bodyOf, headIs}
 use Rattle.writer.specs.declared.head.Head.{Head}
 use Rattle.writer.specs.Marks.{markWidth}

@@ -14,14 +14,14 @@ use Rattle.standard.specs.Bytes.{be, unbe}
 use Rattle.standard.specs.Kinds.{unsigned, Style, foreign, numbered, blob, lettered, listed, mapped, arrayed, describing, kind, kinds, styleOf}
 use Rattle.standard.specs.Table.{letters}
 use Rattle.standard.specs.Encode.{shortest}
-use Rattle.standard.specs.Laws.Numbers.{length-be}
+use Rattle.laws.specs.Numbers.{length-be}
 use Rattle.standard.proofs.Lookup.{Rest}
 use Rattle.writer.specs.Heads.{head}
 use Rattle.writer.specs.Marks.{markWidth}
 use Rattle.writer.specs.Filling.{elementsOf, elementCode, isNumber, isListOrMap, numberHead, compoundHead, Put, behind, kindAt, numberAt, Ready, Stepped}
 use Rattle.writer.specs.declared.filling.Cursor.{Cursor}
 use Rattle.writer.proofs.Tabled.{kindsOnto, other}
-use Rattle.standard.specs.Laws.Stores.{put-on}
+use Rattle.laws.specs.Stores.{put-on}
 use Rattle.writer.proofs.Rows.{Row, value-row, stepped}
 
 -- A code and a number behind it

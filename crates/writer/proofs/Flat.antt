@@ -12,8 +12,8 @@ use Rattle.standard.specs.Tree.{Tree, node, Trees, none, more, root, count, row
 use Rattle.standard.specs.Kinds.{Style, foreign, numbered, blob, lettered, listed, mapped, arrayed, describing, styleOf, isKind, plain}
 use Rattle.standard.specs.Table.{Spot, any, first, allowed, letters, children, firstIn, next, Row, All, Valid}
 use Rattle.standard.specs.Encode.{compact, headed, encode, encode*, item, payloads}
-use Rattle.standard.specs.Laws.Numbers.{length-be}
-use Rattle.standard.specs.Laws.Written.{no-children, AllOf, alike}
+use Rattle.laws.specs.Numbers.{length-be}
+use Rattle.laws.specs.Written.{no-children, AllOf, alike}
 use Rattle.writer.specs.Heads.{head, bodyOf}
 use Rattle.writer.specs.Marks.{markWidth, marks, marks*}
 use Rattle.writer.specs.Filling.{elementsOf, elementCode, own, due, markOf, flat, boxed, lettersIn}

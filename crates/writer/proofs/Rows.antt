@@ -10,7 +10,7 @@ use lib.ListN.{length, take, drop, getD, length-append, length-drop, drop-of-len
 use lib.Seq.{sets, length-sets, drop-cons, drop-drop, length-take-le}
 use Rattle.standard.specs.Choose.{if}
 use Rattle.standard.specs.Bytes.{be, unbe}
-use Rattle.standard.specs.Laws.Numbers.{length-be}
+use Rattle.laws.specs.Numbers.{length-be}
 use Rattle.standard.specs.Kinds.{Style, foreign, numbered, blob, lettered, listed, mapped, arrayed, describing, styleOf}
 use Rattle.standard.specs.Table.{letters}
 use Rattle.standard.specs.Encode.{shortest}
@@ -18,7 +18,7 @@ use Rattle.writer.specs.Heads.{head, enclosure, itemWidth}
 use Rattle.writer.specs.Marks.{markWidth}
 use Rattle.writer.specs.Filling.{elementsOf, elementCode, own, due, markOf, flat, boxed, lettersIn, Fillable, fresh, kindAt, numberAt, lettersAt, markAt, dueAt, ownAt, Ready, Stepped}
 use Rattle.writer.specs.declared.filling.Cursor.{Cursor}
-use Rattle.standard.specs.Laws.Stores.{sets-append, put-on}
+use Rattle.laws.specs.Stores.{sets-append, put-on}
 use Rattle.writer.proofs.Stores.{within, untouched}
 
 -- A row's mark, and its head

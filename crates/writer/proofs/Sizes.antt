@@ -12,7 +12,7 @@ use Rattle.standard.specs.Choose.{if}
 use Rattle.standard.specs.Kinds.{Short, never, flag, unsigned, signed, Style, foreign, numbered, blob, lettered, listed, mapped, arrayed, describing, kinds, styleOf, fair}
 use Rattle.standard.specs.Table.{most, ranged}
 use Rattle.standard.specs.Encode.{fitsByte, shortest}
-use Rattle.standard.specs.Laws.Numbers.{length-be}
+use Rattle.laws.specs.Numbers.{length-be}
 use Rattle.standard.proofs.Lookup.{Rest}
 use Rattle.writer.specs.Heads.{head}
 use Rattle.writer.proofs.Bodies.{head-short}

@@ -7,8 +7,8 @@ use native.Mathlib.Omega.{arith}
 use lib.ListN.{length, take, drop, getD, set, length-append}
 use lib.Seq.{sets, set-comm, take-take, drop-cons, drop-set-lt}
 use Rattle.standard.specs.Bytes.{be, unbe, spell}
-use Rattle.standard.specs.Laws.Numbers.{length-be}
-use Rattle.standard.specs.Laws.Stores.{sets-append, drop-take}
+use Rattle.laws.specs.Numbers.{length-be}
+use Rattle.laws.specs.Stores.{sets-append, drop-take}
 use Rattle.writer.specs.Heads.{headIs}
 use Rattle.writer.specs.declared.head.Head.{Head}
 

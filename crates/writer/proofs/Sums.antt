@@ -16,9 +16,10 @@ use Rattle.standard.specs.Tree.{Tree, node, Trees, none, more, root, count, row
 use Rattle.standard.specs.Kinds.{Style, foreign, numbered, blob, lettered, listed, mapped, arrayed, describing, styleOf, isKind, plain, clean}
 use Rattle.standard.specs.Table.{Spot, any, first, like, allowed, ranged, letters, children, firstIn, next, Row, All, Valid, letter, several, row, tree}
 use Rattle.standard.specs.Encode.{encode, encode*, item, payloads, headed}
-use Rattle.standard.specs.Laws.Answers.{Holds, yes′, no′, on, need-holds, out, if-case}
-use Rattle.standard.specs.Laws.Bounds.{rows-length}
-use Rattle.standard.specs.Laws.Tables.{several-sound, tree-sound}
+use Rattle.standard.specs.Facts.{if-case}
+use Rattle.laws.specs.Answers.{Holds, yes′, no′, on, need-holds, out}
+use Rattle.laws.specs.Bounds.{rows-length}
+use Rattle.laws.specs.Tables.{several-sound, tree-sound}
 use Rattle.writer.specs.Heads.{head, itemWidth, bodyOf}
 use Rattle.writer.specs.Marks.{markWidth, marks, marks*}
 use Rattle.writer.specs.Rows.{check}
@@ -27,9 +28,9 @@ use Rattle.standard.specs.declared.refusal.Refusal.{Refusal}
 use Rattle.writer.specs.declared.sizing.Sized.{Sized}
 use Rattle.writer.specs.declared.sizing.Sized.the-variants.{Fits, Refused}
 use Rattle.writer.specs.declared.sizing.Extent.{Extent}
-use Rattle.standard.specs.Laws.Numbers.{length-be}
-use Rattle.standard.specs.Laws.Written.{no-children}
-use Rattle.standard.specs.Laws.Stores.{sets-append, put-on}
+use Rattle.laws.specs.Numbers.{length-be}
+use Rattle.laws.specs.Written.{no-children}
+use Rattle.laws.specs.Stores.{sets-append, put-on}
 use Rattle.writer.proofs.Stores.{sets-swap}
 use Rattle.writer.proofs.Flat.{plain-leaf}
 use Rattle.writer.proofs.Bodies.{compact-head, wide-head, kind-small, head-short, item-short}

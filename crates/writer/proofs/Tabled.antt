@@ -7,7 +7,7 @@ use borrow.Author.Tests.{ne-eqb}
 use lib.Dec.{T, eqb, eqb→eq}
 use Rattle.standard.specs.Choose.{if, lookup}
 use Rattle.standard.specs.Kinds.{Style, foreign, Kind, kind, kinds, styleOf}
-use Rattle.standard.specs.Laws.Answers.{and-left, and-right, if-case}
+use Rattle.standard.specs.Facts.{and-left, and-right, if-case}
 use Rattle.standard.proofs.Lookup.{Rest}
 
 -- What holds of every row of the table of kinds

@@ -15,8 +15,8 @@ use Rattle.standard.specs.Tree.{node, Trees, none, more}
 use Rattle.standard.specs.Kinds.{Style, foreign, numbered, blob, lettered, listed, mapped, arrayed, describing, kinds, styleOf, isKind, plain}
 use Rattle.standard.specs.Table.{Spot, any, first, like, allowed, ranged, letters, children, firstIn, next, All, Valid, several, tree}
 use Rattle.standard.specs.Encode.{shortEnd, payloads}
-use Rattle.standard.specs.Laws.Numbers.{length-be}
-use Rattle.standard.specs.Laws.Answers.{if-case, T-true, and-left, and-right, clean-nil}
+use Rattle.laws.specs.Numbers.{length-be}
+use Rattle.standard.specs.Facts.{if-case, T-true, and-left, and-right, clean-nil}
 use Rattle.writer.specs.Heads.{enclosure, head, itemWidth}
 use Rattle.writer.specs.Marks.{markWidth, marks, marks*}
 use Rattle.writer.specs.Filling.{elementsOf}
@@ -27,7 +27,7 @@ use Rattle.writer.specs.declared.sizing.Sized.{Sized}
 use Rattle.writer.specs.declared.sizing.Sized.the-variants.{Fits, Refused}
 use Rattle.writer.specs.declared.sizing.Taken.the-variants.{Number, Open, Other}
 use Rattle.writer.specs.declared.sizing.Extent.{Extent}
-use Rattle.standard.specs.Laws.Written.{no-children}
+use Rattle.laws.specs.Written.{no-children}
 use Rattle.writer.proofs.Tabled.{allKinds, of-kind}
 use Rattle.writer.proofs.Checks.{check-good}
 use Rattle.writer.proofs.Flat.{plain-leaf}

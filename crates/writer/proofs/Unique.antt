@@ -13,7 +13,7 @@ use contract.Monad.{Fun, fact}
 use denote.Ref.{RefT, now}
 use Rattle.standard.specs.Outcomes as outcome
 use Rattle.standard.specs.Outcomes.{levelMost}
-use Rattle.standard.specs.Laws.Answers.{same-refusal}
+use Rattle.standard.specs.Facts.{same-refusal}
 use Rattle.writer.specs.InCode.{writtenIs}
 use Rattle.writer.specs.declared.Written.{Written}
 use Rattle.writer.specs.declared.Written.the-variants.{Length, Refused}

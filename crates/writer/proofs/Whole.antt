@@ -11,9 +11,9 @@ use Rattle.standard.specs.Tree.{Tree, Trees, none, more, rows, text, tall, tall
 use Rattle.standard.specs.Table.{most, any, several, tree, spent, table}
 use Rattle.standard.specs.Encode.{encode, encode*}
 use Rattle.standard.specs.Outcomes.{bytesOf, size}
-use Rattle.standard.specs.Laws.Answers.{out}
-use Rattle.standard.specs.Laws.Bounds.{rows-length}
-use Rattle.standard.specs.Laws.Tables.{tree-sound}
+use Rattle.laws.specs.Answers.{out}
+use Rattle.laws.specs.Bounds.{rows-length}
+use Rattle.laws.specs.Tables.{tree-sound}
 use Rattle.standard.specs.declared.refusal.Refusal.{Refusal}
 use Rattle.writer.specs.Marks.{marks, marks*}
 use Rattle.writer.specs.Sizing.{sizeIn, total, Marked, values}

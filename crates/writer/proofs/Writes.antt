@@ -11,9 +11,9 @@ use Rattle.standard.specs.Tree.{Tree, none, more, rows, text}
 use Rattle.standard.specs.Table.{any, tree, table}
 use Rattle.standard.specs.Encode.{encode}
 use Rattle.standard.specs.Outcomes.{bytesOf, size, Writing, writtenTo, write}
-use Rattle.standard.specs.Laws.Bounds.{rows-length}
-use Rattle.standard.specs.Laws.Tables.{tree-complete, table-holds}
-use Rattle.standard.specs.Laws.Stores.{front-over}
+use Rattle.laws.specs.Bounds.{rows-length}
+use Rattle.laws.specs.Tables.{tree-complete, table-holds}
+use Rattle.laws.specs.Stores.{front-over}
 use Rattle.writer.specs.Marks.{marks}
 use Rattle.writer.specs.Sizing.{Marked, values}
 use Rattle.writer.specs.Filling.{flat, Fillable}

@@ -10,7 +10,6 @@ ghost use Rattle.writer.specs.InCode.{spotIs, checkedIs, Styled};
 use standard::kind;
 use standard::kind::Style;
 use standard::refusal;
-use standard::text;
 
 // Where a row stands: in no array, first in one, or behind elements of a kind.
 pub enum IsArrayElement {

@@ -1,7 +1,7 @@
 -- `after_row` puts the children's run on top, and keeps what is left of the run below if that is anything.
 use borrow.Author.Needs.{needs}
 use Prim.Native.Nat.{_-_}
-use Rattle.standard.specs.Laws.Flat.{push}
+use Rattle.laws.specs.Flat.{push}
 use Rattle.reader.proofs.Runs.{kept-more, keeps-more}
 use Rattle.reader.proofs.filling.after_row.Statement.{statement}
 use Rattle.reader.proofs.filling.after_row.Tie as tie

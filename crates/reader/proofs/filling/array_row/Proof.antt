@@ -5,7 +5,7 @@ use native.Mathlib.Omega.{arith}
 use mathlib.Core.Path.{sym, _∙_}
 use lib.ListN.{length, drop}
 use Rattle.standard.specs.Codes.{array}
-use Rattle.standard.specs.Laws.Flat.{behindStep}
+use Rattle.laws.specs.Flat.{behindStep}
 use Rattle.reader.specs.Filling.{RowFound, leafRow}
 use Rattle.reader.proofs.RowSteps.{array-fits, empty-row, items-fit, items-row}
 use Rattle.reader.proofs.filling.array_row.Statement.{statement}

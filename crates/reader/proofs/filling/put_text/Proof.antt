@@ -5,7 +5,7 @@ use native.Mathlib.Omega.{arith}
 use borrow.Author.Needs.{needs}
 use lib.ListN.{length, take, drop, length-set}
 use lib.Seq.{sets}
-use Rattle.standard.specs.Laws.Stores.{left, text-begins, text-goes-on, text-ends}
+use Rattle.laws.specs.Stores.{left, text-begins, text-goes-on, text-ends}
 use Rattle.reader.proofs.filling.put_text.Statement.{statement}
 use Rattle.reader.proofs.filling.put_text.Tie as tie
 

@@ -8,7 +8,7 @@ use lib.ListN.{length}
 use Rattle.standard.specs.Codes.{whole, small, sized}
 use Rattle.standard.specs.Grammar.{extend}
 use Rattle.standard.specs.InCode.{layoutIs}
-use Rattle.standard.specs.Laws.Answers.{and-left, and-right}
+use Rattle.standard.specs.Facts.{and-left, and-right}
 use Rattle.standard.specs.declared.format_code.Layout.{Layout}
 use Rattle.reader.specs.Entries.{narrow, usual, judged, sure}
 use Rattle.reader.proofs.Entries.{four-or-eight}

@@ -12,7 +12,7 @@ use borrow.Fn.PlainCycle.{Measures, is, falls, and}
 use lib.ListN.{length, length-take, length-drop}
 use Rattle.standard.specs.Read as read
 use Rattle.standard.specs.InCode.{layoutIs}
-use Rattle.standard.specs.Laws.Answers.{and-left}
+use Rattle.standard.specs.Facts.{and-left}
 use Rattle.standard.specs.declared.format_code.Layout.{Layout}
 use Rattle.reader.specs.Measuring.{measured, contents, below, reach}
 use Rattle.reader.specs.Entries.{judged, sure}

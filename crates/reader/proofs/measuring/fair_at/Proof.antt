@@ -5,7 +5,7 @@ use native.Mathlib.Omega.{arith}
 use borrow.Author.Needs.{needs}
 use borrow.Author.Tests.{ne-eqb}
 use Rattle.standard.specs.Kinds.{fair}
-use Rattle.standard.specs.Laws.Answers.{and-right}
+use Rattle.standard.specs.Facts.{and-right}
 use Rattle.reader.specs.Entries.{usual, sure}
 use Rattle.reader.proofs.measuring.fair_at.Statement.{statement}
 use Rattle.reader.proofs.measuring.fair_at.Tie as tie

@@ -5,7 +5,7 @@ use mathlib.Core.Bool.{not}
 use native.Mathlib.Omega.{arith}
 use borrow.Author.Needs.{needs}
 use borrow.Author.Tests.{not-true, not-false}
-use Rattle.standard.specs.Laws.Answers.{and-left, and-right}
+use Rattle.standard.specs.Facts.{and-left, and-right}
 use Rattle.reader.specs.Entries.{narrow, judged, sure}
 use Rattle.reader.proofs.Scalars.{sized-short, sized-beyond, sized-bad, sized-good}
 use Rattle.reader.proofs.measuring.sized.Statement.{statement}

@@ -1,7 +1,7 @@
 -- `four_at` reads the bytes of a number in straight line, the most significant first: `spelled` at its width.
 use borrow.Author.Needs.{needs}
 use native.Mathlib.Omega.{arith}
-use Rattle.standard.specs.Laws.Numbers.{spelled}
+use Rattle.laws.specs.Numbers.{spelled}
 use Rattle.reader.proofs.number.four_at.Statement.{statement}
 use Rattle.reader.proofs.number.four_at.Tie as tie
 

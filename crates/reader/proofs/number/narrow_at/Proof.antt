@@ -1,7 +1,7 @@
 -- `narrow_at` reads one byte, or hands four to the function that reads them.
 use borrow.Author.Needs.{needs}
 use native.Mathlib.Omega.{arith}
-use Rattle.standard.specs.Laws.Numbers.{spelled}
+use Rattle.laws.specs.Numbers.{spelled}
 use Rattle.reader.proofs.Entries.{narrow-four}
 use Rattle.reader.proofs.number.narrow_at.Statement.{statement}
 use Rattle.reader.proofs.number.narrow_at.Tie as tie

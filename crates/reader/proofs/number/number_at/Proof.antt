@@ -2,7 +2,7 @@
 use borrow.Author.Needs.{needs}
 use native.Mathlib.Omega.{arith}
 use Rattle.standard.specs.Bytes.{spell}
-use Rattle.standard.specs.Laws.Numbers.{halves}
+use Rattle.laws.specs.Numbers.{halves}
 use Rattle.reader.proofs.Entries.{usual-narrow}
 use Rattle.reader.proofs.number.number_at.Statement.{statement}
 use Rattle.reader.proofs.number.number_at.Tie as tie

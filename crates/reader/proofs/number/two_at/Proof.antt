@@ -1,6 +1,6 @@
 -- `two_at` reads the bytes of a number in straight line, the most significant first: `spelled` at its width.
 use borrow.Author.Needs.{needs}
-use Rattle.standard.specs.Laws.Numbers.{spelled}
+use Rattle.laws.specs.Numbers.{spelled}
 use Rattle.reader.proofs.number.two_at.Statement.{statement}
 use Rattle.reader.proofs.number.two_at.Tie as tie
 

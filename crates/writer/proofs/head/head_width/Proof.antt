@@ -7,7 +7,7 @@ use borrow.Author.Tests.{eq-eqb, ne-eqb, lt-ltb, le-ltb}
 use Rattle.standard.specs.InCode.{styleIs}
 use mathlib.Core.Path.{ap}
 use Rattle.standard.specs.Encode.{shortEnd}
-use Rattle.standard.specs.Laws.Numbers.{length-be}
+use Rattle.laws.specs.Numbers.{length-be}
 use Rattle.writer.specs.Heads.{head}
 use Rattle.writer.proofs.Sizes.{number-small}
 use Rattle.writer.proofs.Turns.{enclosed-width}

@@ -5,7 +5,7 @@ use native.Mathlib.Omega.{arith}
 use lib.Dec.{eqb}
 use borrow.Author.Tests.{eq-eqb, ne-eqb, lt-ltb, le-ltb}
 use Rattle.standard.specs.Encode.{shortest}
-use Rattle.standard.specs.Laws.Numbers.{length-be}
+use Rattle.laws.specs.Numbers.{length-be}
 use Rattle.writer.proofs.Direct.{flag-long}
 use Rattle.writer.proofs.head.number_width.Statement.{statement}
 use Rattle.writer.proofs.head.number_width.Tie as tie

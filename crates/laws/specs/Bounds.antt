@@ -1,0 +1,92 @@
+-- What is read has no more rows, and no more bytes of text, than it has bytes.
+use Prim.Native.Nat.{ℕ, zero, suc, _+_, _*_, _≤_, _<_}
+use mathlib.Core.Path.{_≡_, refl}
+use mathlib.Core.List.{List, [], _∷_, _++_}
+use native.Mathlib.Omega.{arith}
+use lib.Dec.{T, leb→le}
+use lib.ListN.{length, length-append}
+use Rattle.standard.specs.Tree.{Tree, node, Trees, none, more, rows, rows*, text, text*, tall, tall*}
+use Rattle.standard.specs.Codes.{Scalar, Layout, layoutOf, filled, element}
+use Rattle.standard.specs.Kinds.{named}
+use Rattle.standard.specs.Grammar.{Plain, constant′, whole′, small′, raw′, sized′, Many, none′, more′, Leaf, leaf′, Fields, fields′, Coded, coded′, Items, empty′, items′, Shape, scalar′, described′, compound′, array′, Payload, Form, Formed}
+
+-- two words to a row
+mutual
+  unfolding rows tall
+
+  pub rows-length : (v : Tree) → length (rows v) ≡ 2 * tall v
+  rows-length (node k n t cs) = omega (arith, rows*-length cs)
+
+  pub rows*-length : (vs : Trees) → length (rows* vs) ≡ 2 * tall* vs
+  rows*-length none = refl
+  rows*-length (more v vs) = omega (arith, length-append (rows v) (rows* vs), rows-length v, rows*-length vs)
+
+-- rows and text are no more than the bytes
+pub record Small (v : Tree) (a : List ℕ) : Type 0 where
+  pub height : tall v ≤ length a
+  pub letters : length (text v) ≤ length a
+
+pub record Smalls (vs : Trees) (a : List ℕ) : Type 0 where
+  pub height : tall* vs ≤ length a
+  pub letters : length (text* vs) ≤ length a
+
+plain-small : {s : Scalar} {n : ℕ} {t a : List ℕ} → Plain s n t a → length t ≤ length a
+plain-small constant′ = omega arith
+plain-small (whole′ h e) = omega arith
+plain-small (small′ h e) = omega arith
+plain-small (raw′ h) = omega arith
+plain-small (sized′ a {t = t} h e f) = omega (arith, length-append a t)
+
+plain-some : {s : Scalar} {n : ℕ} {t a : List ℕ} → Plain s n t a → T (filled s) → 0 < length a
+unfolding filled
+plain-some constant′ t = absurd t
+plain-some (whole′ {w = w} h e) t = omega (arith, leb→le 1 w t)
+plain-some (small′ h e) t = omega arith
+plain-some (raw′ {w = w} h) t = omega (arith, leb→le 1 w t)
+plain-some (sized′ {w = w} a {t = t} h e f) g = omega (arith, length-append a t, leb→le 1 w g)
+
+leaf-text : (k n : ℕ) (t : List ℕ) → (tall (node k n t none) ≡ 1) × (length (text (node k n t none)) ≡ length t)
+unfolding tall text
+leaf-text k n t = (refl, omega (arith, length-append t []))
+
+many-small : {P : Tree → List ℕ → Type 0} → ((v : Tree) (a : List ℕ) → P v a → Small v a) → {n : ℕ} {vs : Trees} {a : List ℕ} → Many P n vs a → Smalls vs a
+unfolding tall text
+many-small g none′ = record { height = omega arith; letters = omega arith }
+many-small g (more′ {v = v} {vs = vs} {xs = xs} {bs = bs} h hs) =
+    let i = g v xs h in
+    let j = many-small g hs in
+    record { height = omega (arith, i .height, j .height, length-append xs bs); letters = omega (arith, i .letters, j .letters, length-append xs bs, length-append (text v) (text* vs)) }
+
+node-small : (k n : ℕ) (vs : Trees) (hs a : List ℕ) → 0 < length hs → Smalls vs a → Small (node k n [] vs) (hs ++ a)
+unfolding tall text
+node-small k n vs hs a i h = record { height = omega (arith, h .height, length-append hs a); letters = omega (arith, h .letters, length-append hs a) }
+
+-- behind every code, counting the code; behind an element's, without it
+abbrev Fits : (ℕ → Tree → List ℕ → Type 0) → Type 0
+Fits P = (c : ℕ) (v : Tree) (a : List ℕ) → P c v a → Small v (c ∷ a) × (T (element (layoutOf c)) → Small v a)
+
+module _ {P : ℕ → Tree → List ℕ → Type 0} (g : Fits P) where
+  coded-small : (v : Tree) (a : List ℕ) → Coded P v a → Small v a
+  coded-small v a (coded′ {c = c} {bs = bs} h) = g c v bs h .0
+
+  items-small : {n k : ℕ} {vs : Trees} {a : List ℕ} → Items P n k vs a → Smalls vs a
+  unfolding tall text
+  items-small empty′ = record { height = omega arith; letters = omega arith }
+  items-small (items′ {e = e} t m) = let h = many-small (λ v a i. g e v a i .1 t) m in record { height = omega (arith, h .height); letters = omega (arith, h .letters) }
+
+  shape-small : {k : ℕ} {y : Layout} {v : Tree} {a : List ℕ} → Shape P k y v a → (c : ℕ) → Small v (c ∷ a) × (T (element y) → Small v a)
+  unfolding element
+  shape-small {k = k} (scalar′ {s = s} (leaf′ {n = n} {t = t} {bs = bs} h i j)) c = (
+    record { height = omega (arith, leaf-text k n t .0); letters = omega (arith, plain-small h, leaf-text k n t .1) },
+    λ o. record { height = omega (arith, plain-some h o, leaf-text k n t .0); letters = omega (arith, plain-small h, leaf-text k n t .1) },
+  )
+  shape-small {k = k} (described′ {vs = vs} {bs = bs} m) c = (node-small k 2 vs (c ∷ []) bs (omega arith) (many-small coded-small m), λ t. absurd t)
+  shape-small {k = k} (compound′ {n = n} {vs = vs} {hs = hs} {bs = bs} h t m) c = (node-small k n vs (c ∷ hs) bs (omega arith) (many-small coded-small m), λ t. absurd t)
+  shape-small {k = k} (array′ {n = n} {e = e} {vs = vs} {hs = hs} {bs = bs} h i) c = (node-small k (named n e) vs (c ∷ hs) bs (omega arith) (items-small i), λ t. absurd t)
+
+fits : (l : ℕ) → Fits (Payload l)
+fits zero c v a f = absurd f
+fits (suc l) c v a f = shape-small (fits l) f c
+
+pub small : (l : ℕ) (v : Tree) (a : List ℕ) → Formed l v a → Small v a
+small l v a f = coded-small (fits l) v a (f .form)

@@ -1,0 +1,57 @@
+-- At most one front of a run of bytes is well-formed; reading finds it, and what stands behind it alters nothing.
+use Prim.Native.Nat.{ℕ, _+_}
+use mathlib.Core.Path.{_≡_, sym, ap, _∙_}
+use mathlib.Core.List.{List, _++_}
+use native.Mathlib.Omega.{arith}
+use lib.ListN.{length, take, length-append}
+use lib.Seq.{take-append-seam, take-at}
+use Rattle.standard.specs.Answer.{Answer, got, refuse, Place}
+use Rattle.standard.specs.Tree.{Tree}
+use Rattle.standard.specs.Grammar.{Form, Formed}
+use Rattle.standard.specs.Read.{value, front}
+use Rattle.laws.specs.Answers.{Holds, weaken, out, Left}
+use Rattle.laws.specs.Complete.{complete}
+use Rattle.laws.specs.Sound.{sound}
+
+-- well-formed bytes are read, whatever stands behind them
+pub front-complete : (l : ℕ) (v : Tree) (a rest : List ℕ) → Formed l v a → front l (a ++ rest) ≡ got (v, rest)
+unfolding front
+front-complete l v a rest h = complete l v a (h .form) 0 rest
+
+-- what is read is well-formed
+pub front-sound : (l : ℕ) (r : List ℕ) → Holds (λ x. Left (Formed l (x .0)) r (x .1)) (front l r)
+unfolding front
+front-sound l r = weaken (sound l 0 r) (λ x h. record { front = h .front; split = h .split; holds = record { form = h .holds } })
+
+-- a value is read exactly where a front is well-formed
+pub front-reads : (l : ℕ) (r s : List ℕ) (v : Tree) → front l r ≡ got (v, s) → Left (Formed l v) r s
+front-reads l r s v e = out (rw e at (front-sound l r))
+
+pub front-read : (l : ℕ) (r s : List ℕ) (v : Tree) → Left (Formed l v) r s → front l r ≡ got (v, s)
+front-read l r s v h = ap (front l) (h .split) ∙ front-complete l v (h .front) s (h .holds)
+
+same-front : (a b r s : List ℕ) → r ≡ s → a ++ r ≡ b ++ s → a ≡ b
+same-front a b r s z e =
+    let n : length a ≡ length b = omega (arith, simp length-append at (ap length e), ap length z) in
+    sym (take-append-seam a r) ∙ ap (take (length a)) e ∙ take-at b s (length a) (sym n)
+
+-- two well-formed fronts of one run of bytes are the same, and have the same tree
+pub unique : (l : ℕ) (v w : Tree) (a b r s : List ℕ) → Formed l v a → Formed l w b → a ++ r ≡ b ++ s → (v ≡ w) × (r ≡ s) × (a ≡ b)
+unique l v w a b r s f g e =
+    let x : front l (a ++ r) ≡ got (v, r) = front-complete l v a r f in
+    let y : front l (b ++ s) ≡ got (w, s) = front-complete l w b s g in
+    let q : _≡_ {A = Tree × List ℕ} (v, r) (w, s) = cc in
+    let z : r ≡ s = ap (λ t. t .1) q in
+    (ap (λ t. t .0) q, z, same-front a b r s z e)
+
+-- where reading refuses, no front is well-formed
+pub refused : (l x : ℕ) (q : Place) (r : List ℕ) → front l r ≡ refuse x q → (v : Tree) (s : List ℕ) → Left (Formed l v) r s → ⊥
+refused l x q r e v s h =
+    let f : front l r ≡ got (v, s) = front-read l r s v h in
+    let z : _≡_ {A = ℕ} 0 1 = cc in omega arith
+
+-- what stands behind a value alters nothing
+pub behind-nothing : (l : ℕ) (r s : List ℕ) (v : Tree) → front l r ≡ got (v, s) → (a : List ℕ) × (r ≡ a ++ s) × ((z : List ℕ) → front l (a ++ z) ≡ got (v, z))
+behind-nothing l r s v e =
+    let h = front-reads l r s v e in
+    (h .front, h .split, λ z. front-complete l v (h .front) z (h .holds))
