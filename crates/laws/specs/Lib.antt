@@ -14,3 +14,7 @@ pub mod Round
 pub mod Flat
 pub mod Flow
 pub mod Stores
+pub mod Demand1
+pub mod Demand2
+pub mod Demand3
+pub mod ShutOut

@@ -23,12 +23,14 @@ pub record Wrote (levels : ℕ) (words letters bytes : List ℕ) : Type 0 where
   pub textIs : letters ≡ text tree
   pub valid : Valid levels any tree
   pub bytesAre : bytes ≡ encode tree
+  pub small : length bytes ≤ most
   pub formed : Formed levels tree bytes
 
 wrote-all : (l : ℕ) (w x : List ℕ) → Holds (λ a. Wrote l w x a) (bytesOf l w x)
 unfolding bytesOf
 wrote-all l w x = on (table-sound l w x) (λ v h. on (need-holds (leb (length (encode v)) most) tooLong (at 0)) (λ u t.
-    yes′ record { tree = v; rowsAre = h .0; textIs = h .1; valid = h .2; bytesAre = refl; formed = well-formed l v (h .2) (leb→le (length (encode v)) most t) }))
+    let s : length (encode v) ≤ most = leb→le (length (encode v)) most t in
+    yes′ record { tree = v; rowsAre = h .0; textIs = h .1; valid = h .2; bytesAre = refl; small = s; formed = well-formed l v (h .2) s }))
 
 pub wrote : (l : ℕ) (w x bs : List ℕ) → bytesOf l w x ≡ got bs → Wrote l w x bs
 wrote l w x bs e = out (rw e at (wrote-all l w x))

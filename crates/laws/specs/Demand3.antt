@@ -1,0 +1,85 @@
+-- Demand 3. No written table's bytes begin another's. Of all bytes that arrive at most one beginning is well-formed; its length is reported exactly when
+-- there is one, and what stands behind changes nothing.
+use Prim.Native.Nat.{ℕ, _+_, _-_}
+use mathlib.Core.Path.{_≡_, refl, sym, ap, _∙_}
+use mathlib.Core.List.{List, _++_}
+use native.Mathlib.Omega.{arith}
+use lib.ListN.{length, take, length-append}
+use lib.Seq.{take-at}
+use Rattle.standard.specs.Answer.{Answer, got, refuse}
+use Rattle.standard.specs.Tree.{Tree}
+use Rattle.standard.specs.Grammar.{Formed}
+use Rattle.standard.specs.Read.{front}
+use Rattle.standard.specs.Outcomes.{bytesOf, Extent, extent, measure, read}
+use Rattle.laws.specs.Unique.{front-complete, front-reads, unique}
+use Rattle.laws.specs.Round as round
+use Rattle.laws.specs.Demand2.{Demand2, demand2}
+
+-- bytes that begin with those of a well-formed value, which has that extent: its length, its rows and its text
+pub record Begins (l : ℕ) (bytes : List ℕ) (e : Extent) : Type 0 where
+  pub tree : Tree
+  pub front : List ℕ
+  pub behind : List ℕ
+  pub split : bytes ≡ front ++ behind
+  pub formed : Formed l tree front
+  pub isExtent : e ≡ extent tree (length front)
+
+pub record Demand3 : Type 0 where
+  -- no written table's bytes begin another's: if one's do, the two are the same rows and the same text
+  pub apart : (l : ℕ) (w x a u y b z : List ℕ) → bytesOf l w x ≡ got a → bytesOf l u y ≡ got b → b ≡ a ++ z → (w ≡ u) × (x ≡ y)
+  -- of all bytes that arrive at most one beginning is well-formed, and it is the bytes of one value
+  pub one : (l : ℕ) (r a b y z : List ℕ) (v u : Tree) → r ≡ a ++ y → Formed l v a → r ≡ b ++ z → Formed l u b → (a ≡ b) × (v ≡ u)
+  -- its length is reported exactly when there is one
+  pub reported : (l : ℕ) (r : List ℕ) (e : Extent) → measure l r ≡ got e → Begins l r e
+  pub whenever : (l : ℕ) (r : List ℕ) (e : Extent) → Begins l r e → measure l r ≡ got e
+  -- what stands behind changes nothing: neither what is measured, nor what is read
+  pub behind : (l : ℕ) (r z : List ℕ) (e : Extent) → measure l r ≡ got e → measure l (take (e .length) r ++ z) ≡ got e
+  pub behind-read : (l : ℕ) (r z w x : List ℕ) (e : Extent) → read l r w x .answer ≡ got e → read l (take (e .length) r ++ z) w x ≡ read l r w x
+
+-- The proofs
+
+measured : (l : ℕ) (r s : List ℕ) (v : Tree) → front l r ≡ got (v, s) → measure l r ≡ got (extent v (length r - length s))
+unfolding measure
+measured l r s v h = rw h
+
+front-long : (a z r : List ℕ) → r ≡ a ++ z → length r - length z ≡ length a
+front-long a z r e = let n : length r ≡ length a + length z = ap length e ∙ length-append a z in omega (arith, n)
+
+measured-of : (l : ℕ) (r : List ℕ) (e : Extent) (m : Answer (Tree × List ℕ)) → front l r ≡ m → measure l r ≡ got e → Begins l r e
+unfolding measure
+measured-of l r e (refuse x p) i f = let j : _≡_ {A = Answer Extent} (refuse x p) (got e) = rw i at f in let z : _≡_ {A = ℕ} 0 1 = cc in absurd (omega arith)
+measured-of l r e (got (v, z)) i f =
+    let h = front-reads l r z v i in
+    let j : _≡_ {A = Answer Extent} (got e) (got (extent v (length r - length z))) = sym f ∙ measured l r z v i in
+    let k : e ≡ extent v (length r - length z) = cc in
+    record { tree = v; front = h .front; behind = z; split = h .split; formed = h .holds; isExtent = k ∙ ap (extent v) (front-long (h .front) z r (h .split)) }
+
+measures : (l : ℕ) (r : List ℕ) (e : Extent) → measure l r ≡ got e → Begins l r e
+measures l r e = measured-of l r e (front l r) refl
+
+formed-measured : (l : ℕ) (v : Tree) (a z : List ℕ) → Formed l v a → measure l (a ++ z) ≡ got (extent v (length a))
+formed-measured l v a z h = measured l (a ++ z) z v (front-complete l v a z h) ∙ ap (λ (n : ℕ). got (extent v n)) (front-long a z (a ++ z) refl)
+
+behind-all : (l : ℕ) (r z : List ℕ) (e : Extent) → measure l r ≡ got e → measure l (take (e .length) r ++ z) ≡ got e
+behind-all l r z e f =
+    let h = measures l r e f in
+    let t : take (e .length) r ≡ h .front = ap (λ k. take (k .length) r) (h .isExtent) ∙ ap (take (length (h .front))) (h .split) ∙ take-at (h .front) (h .behind) (length (h .front)) refl in
+    ap (λ (a : List ℕ). measure l (a ++ z)) t ∙ formed-measured l (h .tree) (h .front) z (h .formed) ∙ ap got (sym (h .isExtent))
+
+behind-reading : (l : ℕ) (r z w x : List ℕ) (e : Extent) → read l r w x .answer ≡ got e → read l (take (e .length) r ++ z) w x ≡ read l r w x
+behind-reading l r z w x e f =
+    let h = demand2 .given l r w x e f in
+    let j : _≡_ {A = Answer Extent} (got e) (got (extent (h .tree) (length (h .front)))) = sym f ∙ ap (λ k. k .answer) (h .outcome) in
+    let k : e ≡ extent (h .tree) (length (h .front)) = cc in
+    let t : take (e .length) r ≡ h .front = ap (λ k. take (k .length) r) k ∙ ap (take (length (h .front))) (h .split) ∙ take-at (h .front) (h .behind) (length (h .front)) refl in
+    ap (λ (a : List ℕ). read l (a ++ z) w x) t ∙ demand2 .reads l (h .tree) (h .front) z w x (h .formed) (h .wordsFit) (h .textFits) ∙ sym (h .outcome)
+
+pub demand3 : Demand3
+demand3 = record {
+  apart = λ l w x a u y b z e f i. round.apart l w x a u y b z e f (sym i);
+  one = λ l r a b y z v u e f g h. let k = unique l v u a b y z f h (sym e ∙ g) in (k .2, k .0);
+  reported = measures;
+  whenever = λ l r e h. ap (measure l) (h .split) ∙ formed-measured l (h .tree) (h .front) (h .behind) (h .formed) ∙ ap got (sym (h .isExtent));
+  behind = behind-all;
+  behind-read = behind-reading;
+}
