@@ -4,12 +4,12 @@ use mathlib.Core.Path.{_≡_, refl}
 use mathlib.Core.List.{List, [], _∷_, _++_}
 use mathlib.Core.Bool.{Bool, true, false}
 use native.Mathlib.Omega.{arith}
-use lib.Dec.{T, leb, leb→le, le→leb}
+use lib.Dec.{leb, leb→le, le→leb}
 use lib.ListN.{length, take, drop, length-append}
 use lib.Seq.{take-append-le, drop-append-le}
 use Rattle.standard.specs.Answer.{Answer, got, refuse, Place, at, _>>=_, _>>_, need, inputShort, sizeAmiss, payloadBad}
 use Rattle.standard.specs.Bytes.{unbe}
-use Rattle.standard.specs.Tree.{Tree, Trees}
+use Rattle.standard.specs.Tree.{Tree}
 use Rattle.standard.specs.Codes.{Scalar, constant, whole, small, raw, sized, Layout, unknown, described, scalar, compound, array, layoutOf, kindOf}
 use Rattle.standard.specs.Kinds.{fair, clean, paired}
 use Rattle.standard.specs.Read.{cut, plain, leaf, many, done, fields, held, inside, coded, behind, payload, value, front}

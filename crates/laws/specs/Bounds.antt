@@ -8,7 +8,7 @@ use lib.ListN.{length, length-append}
 use Rattle.standard.specs.Tree.{Tree, node, Trees, none, more, rows, rows*, text, text*, tall, tall*}
 use Rattle.standard.specs.Codes.{Scalar, Layout, layoutOf, filled, element}
 use Rattle.standard.specs.Kinds.{named}
-use Rattle.standard.specs.Grammar.{Plain, constant′, whole′, small′, raw′, sized′, Many, none′, more′, Leaf, leaf′, Fields, fields′, Coded, coded′, Items, empty′, items′, Shape, scalar′, described′, compound′, array′, Payload, Form, Formed}
+use Rattle.standard.specs.Grammar.{Plain, constant′, whole′, small′, raw′, sized′, Many, none′, more′, leaf′, Coded, coded′, Items, empty′, items′, Shape, scalar′, described′, compound′, array′, Payload, Formed}
 
 -- two words to a row
 mutual

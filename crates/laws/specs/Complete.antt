@@ -1,5 +1,5 @@
 -- Complete: well-formed bytes are read, whatever stands behind them.
-use Prim.Native.Nat.{ℕ, zero, suc, _+_, _-_, _≤_, _<_}
+use Prim.Native.Nat.{ℕ, zero, suc, _+_, _-_, _<_}
 use mathlib.Core.Path.{_≡_, refl, sym, _∙_}
 use mathlib.Core.List.{List, [], _∷_, _++_, append-assoc, append-nil}
 use mathlib.Core.Bool.{true}
@@ -10,7 +10,7 @@ use lib.Seq.{take-at, drop-at}
 use Rattle.standard.specs.Answer.{Answer, got}
 use Rattle.standard.specs.Bytes.{unbe}
 use Rattle.standard.specs.Tree.{Tree, Trees}
-use Rattle.standard.specs.Codes.{Scalar, Layout, unknown, described, scalar, compound, array, layoutOf, kindOf, isCode, element}
+use Rattle.standard.specs.Codes.{Scalar, Layout, unknown, described, scalar, compound, array, layoutOf, isCode, element}
 use Rattle.standard.specs.Kinds.{fair, clean, paired}
 use Rattle.standard.specs.Grammar.{Plain, constant′, whole′, small′, raw′, sized′, Many, none′, more′, Leaf, leaf′, Fields, fields′, Coded, coded′, Items, empty′, items′, Shape, scalar′, described′, compound′, array′, Payload, Form}
 use Rattle.standard.specs.Read.{cut, plain, leaf, many, done, fields, held, items, inside, coded, behind, payload, value}

@@ -4,7 +4,7 @@
 -- That it takes everything and ends is the language's part: no public function has a `requires`, and the prover accepts a function only if it ends on
 -- each input that its `requires` allows, with every index in range, no sum that wraps and no cast that loses bits. What it answers and what lent
 -- memory holds afterwards is then an outcome of Outcomes.antt, a function of the inputs. Here is what holds of these outcomes, at every level limit.
-use Prim.Native.Nat.{ℕ, _+_, _*_, _-_, _/_, _≤_}
+use Prim.Native.Nat.{ℕ, _*_, _-_, _/_, _≤_}
 use mathlib.Core.Path.{_≡_, refl, ap, _∙_}
 use mathlib.Core.List.{List, [], _∷_}
 use mathlib.Core.Bool.{Bool, true, false}
@@ -15,7 +15,7 @@ use lib.Seq.{drop-at}
 use Rattle.standard.specs.Answer.{Answer, got, refuse, Place, at, _>>=_, _>>_, need, outputShort, rowsShort, textShort}
 use Rattle.standard.specs.Tree.{Tree, tall, rows, text}
 use Rattle.standard.specs.Read.{front}
-use Rattle.standard.specs.Outcomes.{over, bytesOf, size, Writing, writtenTo, write, Extent, extent, measure, Reading, readInto, read, refused, stepped, stepIn, step}
+use Rattle.standard.specs.Outcomes.{over, bytesOf, size, writtenTo, write, Extent, extent, measure, Reading, readInto, read, refused, stepped, stepIn, step}
 use Rattle.laws.specs.Bounds.{rows-length}
 
 -- a lent buffer of which the first n are filled and no other is touched

@@ -4,13 +4,13 @@
 -- value are `Formed` of Grammar.antt, where no reader is spoken of. What the entry points give is in Outcomes.antt.
 use Prim.Native.Nat.{ℕ, _+_, _*_, _-_, _/_, _≤_}
 use mathlib.Core.Path.{_≡_, refl, sym, ap, _∙_}
-use mathlib.Core.List.{List, [], _∷_, _++_}
+use mathlib.Core.List.{List, _++_}
 use mathlib.Core.Bool.{Bool, true, false}
 use native.Mathlib.Omega.{arith}
 use lib.Dec.{T, leb, leb→le, le→leb}
 use lib.ListN.{length, take, drop, length-append}
 use lib.Seq.{take-at}
-use Rattle.standard.specs.Answer.{Answer, got, refuse, at, _>>=_, _>>_, need, outputShort, rowsShort, textShort}
+use Rattle.standard.specs.Answer.{Answer, got, refuse, at, _>>_, need, outputShort, rowsShort, textShort}
 use Rattle.standard.specs.Tree.{Tree, tall, rows, text}
 use Rattle.standard.specs.Grammar.{Formed}
 use Rattle.standard.specs.Read.{front}
@@ -18,7 +18,9 @@ use Rattle.standard.specs.Table.{most, any, Valid}
 use Rattle.standard.specs.Encode.{encode}
 use Rattle.standard.specs.Facts.{T-true}
 use Rattle.standard.specs.Outcomes.{over, bytesOf, Writing, writtenTo, write, Extent, extent, Reading, readInto, read}
+use Rattle.laws.specs.Numbers.{Bytes}
 use Rattle.laws.specs.Bounds.{rows-length}
+use Rattle.laws.specs.Limits.{Limited, valid-again, valid-limited}
 use Rattle.laws.specs.Unique.{front-complete, front-reads}
 use Rattle.laws.specs.Tables.{table-complete}
 use Rattle.laws.specs.Round.{wrote}
@@ -66,6 +68,10 @@ pub record Demand2 : Type 0 where
   -- what was written is read back to the table that it was written from, whatever stands behind it
   pub back : (l : ℕ) (w x o : List ℕ) (n : ℕ) → write l w x o .answer ≡ got n → (z u y : List ℕ) → length w ≤ length u → length x ≤ length y
       → read l (take n (write l w x o .out) ++ z) u y ≡ record { answer = got (record { length = n; rows = length w / 2; text = length x }); words = over w u; letters = over x y }
+  -- what was read is written, where it is within the writer's limits, and is read again as the same value; nothing beyond the limits is written
+  pub again : (l : ℕ) (v : Tree) (a o z w x : List ℕ) → Bytes a → Formed l v a → Limited (rows v) → length (encode v) ≤ most → length (encode v) ≤ length o → 2 * tall v ≤ length w → length (text v) ≤ length x
+      → (write l (rows v) (text v) o ≡ wrote-over (encode v) o) × (read l (encode v ++ z) w x ≡ gave-over v (length (encode v)) w x)
+  pub limits : (l : ℕ) (w x o : List ℕ) (n : ℕ) → write l w x o .answer ≡ got n → Limited w × (n ≤ most)
 
 -- The proofs
 
@@ -138,6 +144,19 @@ back-all l w x o n e z u y r s =
         → gave-over v (length bs) u y ≡ record { answer = got (record { length = n; rows = k; text = j }); words = over w u; letters = over x y }
     same v bs n k j w x u y a b c d e i = record { answer = got (record { length = a i; rows = b i; text = c i }); words = over (d i) u; letters = over (e i) y }
 
+again-all : (l : ℕ) (v : Tree) (a o z w x : List ℕ) → Bytes a → Formed l v a → Limited (rows v) → length (encode v) ≤ most → length (encode v) ≤ length o → 2 * tall v ≤ length w → length (text v) ≤ length x
+    → (write l (rows v) (text v) o ≡ wrote-over (encode v) o) × (read l (encode v ++ z) w x ≡ gave-over v (length (encode v)) w x)
+again-all l v a o z w x b f m n r s t =
+    let h = valid-again l v a b f m in
+    (writes-all l v o h n r, reads-all l v (encode v) z w x (well-formed l v h n) s t)
+
+limits-all : (l : ℕ) (w x o : List ℕ) (n : ℕ) → write l w x o .answer ≡ got n → Limited w × (n ≤ most)
+limits-all l w x o n e =
+    let h = written-all l w x o n e in
+    let g : _≡_ {A = Answer ℕ} (got n) (got (length (encode (h .tree)))) = sym e ∙ ap (λ k. k .answer) (h .outcome) in
+    let m : n ≡ length (encode (h .tree)) = cc in
+    (rw (h .rowsAre) (valid-limited (h .tree) l any (h .valid)), omega (arith, m, h .small))
+
 pub demand2 : Demand2
 demand2 = record {
   writes = writes-all;
@@ -145,4 +164,6 @@ demand2 = record {
   reads = reads-all;
   given = given-all;
   back = back-all;
+  again = again-all;
+  limits = limits-all;
 }

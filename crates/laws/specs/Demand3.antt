@@ -13,7 +13,7 @@ use Rattle.standard.specs.Read.{front}
 use Rattle.standard.specs.Outcomes.{bytesOf, Extent, extent, measure, read}
 use Rattle.laws.specs.Unique.{front-complete, front-reads, unique}
 use Rattle.laws.specs.Round as round
-use Rattle.laws.specs.Demand2.{Demand2, demand2}
+use Rattle.laws.specs.Demand2.{demand2}
 
 -- bytes that begin with those of a well-formed value, which has that extent: its length, its rows and its text
 pub record Begins (l : ℕ) (bytes : List ℕ) (e : Extent) : Type 0 where

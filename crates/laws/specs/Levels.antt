@@ -3,12 +3,11 @@ use Prim.Native.Nat.{ℕ, zero, suc, _≤_}
 use mathlib.Core.Path.{_≡_}
 use mathlib.Core.List.{List}
 use native.Mathlib.Decide.{le-ind}
-use Rattle.standard.specs.Answer.{Answer, got}
+use Rattle.standard.specs.Answer.{got}
 use Rattle.standard.specs.Tree.{Tree, Trees}
 use Rattle.standard.specs.Codes.{Layout}
 use Rattle.standard.specs.Grammar.{Many, none′, more′, Coded, coded′, Items, empty′, items′, Shape, scalar′, described′, compound′, array′, Payload, Form, Formed}
 use Rattle.standard.specs.Read.{front}
-use Rattle.laws.specs.Answers.{Left}
 use Rattle.laws.specs.Unique.{front-reads, front-read}
 
 many-map : {P Q : Tree → List ℕ → Type 0} → ((v : Tree) (a : List ℕ) → P v a → Q v a) → {n : ℕ} {vs : Trees} {a : List ℕ} → Many P n vs a → Many Q n vs a

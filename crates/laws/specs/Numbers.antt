@@ -34,6 +34,10 @@ abbrev pub Bytes : List ℕ → Type 0
 Bytes [] = Unit {0}
 Bytes (b ∷ bs) = (b < 256) × Bytes bs
 
+pub bytes-split : (a b : List ℕ) → Bytes (a ++ b) → Bytes a × Bytes b
+bytes-split [] b h = (tt, h)
+bytes-split (c ∷ a) b h = let i = bytes-split a b (h .1) in ((h .0, i .0), i .1)
+
 pub spell-split : (x : ℕ) (a : List ℕ) → spell x a ≡ x * 256 ^ length a + unbe a
 unfolding spell
 spell-split x [] = omega arith
@@ -61,12 +65,6 @@ be-spell (b ∷ bs) h x =
 -- the bytes of the number that bytes spell are those bytes
 pub be-unbe : (a : List ℕ) → Bytes a → be (length a) (unbe a) ≡ a
 be-unbe a h = be-spell a h 0
-
--- the bytes of a number are bytes
-pub bytes-be : (w n : ℕ) → Bytes (be w n)
-unfolding be
-bytes-be zero n = tt
-bytes-be (suc w) n = (omega arith, bytes-be w n)
 
 -- A number read in straight line, from place i of the bytes b on
 

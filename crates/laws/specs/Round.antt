@@ -4,15 +4,14 @@ use mathlib.Core.Path.{_≡_, refl, sym, ap, _∙_}
 use mathlib.Core.List.{List, [], _++_, append-nil}
 use lib.Dec.{leb, leb→le}
 use lib.ListN.{length}
-use Rattle.standard.specs.Answer.{Answer, got, at, tooLong}
+use Rattle.standard.specs.Answer.{got, at, tooLong}
 use Rattle.standard.specs.Tree.{Tree, rows, text}
 use Rattle.standard.specs.Grammar.{Formed}
-use Rattle.standard.specs.Table.{most, any, Valid, table}
+use Rattle.standard.specs.Table.{most, any, Valid}
 use Rattle.standard.specs.Encode.{encode}
-use Rattle.standard.specs.Read.{front}
 use Rattle.standard.specs.Outcomes.{bytesOf}
 use Rattle.laws.specs.Answers.{Holds, yes′, on, out, need-holds}
-use Rattle.laws.specs.Unique.{front-complete, unique}
+use Rattle.laws.specs.Unique.{unique}
 use Rattle.laws.specs.Written.{well-formed}
 use Rattle.laws.specs.Tables.{table-sound}
 
@@ -34,10 +33,6 @@ wrote-all l w x = on (table-sound l w x) (λ v h. on (need-holds (leb (length (e
 
 pub wrote : (l : ℕ) (w x bs : List ℕ) → bytesOf l w x ≡ got bs → Wrote l w x bs
 wrote l w x bs e = out (rw e at (wrote-all l w x))
-
--- what is written for a table is read back to that table, whatever stands behind
-pub there-and-back : (l : ℕ) (w x bs rest : List ℕ) → bytesOf l w x ≡ got bs → (v : Tree) × (front l (bs ++ rest) ≡ got (v, rest)) × (rows v ≡ w) × (text v ≡ x)
-there-and-back l w x bs rest e = let h = wrote l w x bs e in (h .tree, front-complete l (h .tree) bs rest (h .formed), sym (h .rowsAre), sym (h .textIs))
 
 -- no written table's bytes begin another's: neither rows nor text of the two can differ
 pub apart : (l : ℕ) (w x a u y b s : List ℕ) → bytesOf l w x ≡ got a → bytesOf l u y ≡ got b → a ++ s ≡ b → (w ≡ u) × (x ≡ y)

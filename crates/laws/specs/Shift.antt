@@ -1,14 +1,14 @@
 -- Places shift with the start of the room, and nothing else depends on it.
 use Prim.Native.Nat.{ℕ, zero, suc, _+_, _-_}
-use mathlib.Core.Path.{_≡_, refl, sym, subst}
+use mathlib.Core.Path.{_≡_, refl}
 use mathlib.Core.List.{List, [], _∷_}
 use mathlib.Core.Bool.{Bool, true, false}
 use native.Mathlib.Omega.{arith}
 use lib.Dec.{leb}
-use lib.ListN.{length, take, drop}
+use lib.ListN.{length}
 use Rattle.standard.specs.Answer.{Answer, got, refuse, at, _>>=_, _>>_, need, inputShort, sizeAmiss, payloadBad, codeUnknown, elementUnfit}
 use Rattle.standard.specs.Bytes.{unbe}
-use Rattle.standard.specs.Tree.{Tree, Trees}
+use Rattle.standard.specs.Tree.{Tree}
 use Rattle.standard.specs.Codes.{Scalar, constant, whole, small, raw, sized, Layout, unknown, described, scalar, compound, array, layoutOf, kindOf, isCode, element}
 use Rattle.standard.specs.Kinds.{fair, clean, paired}
 use Rattle.standard.specs.Read.{cut, plain, leaf, many, done, fields, held, items, inside, coded, behind, payload, value}

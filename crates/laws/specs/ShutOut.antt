@@ -5,18 +5,17 @@ use mathlib.Core.Path.{_≡_, refl, sym, ap, _∙_}
 use mathlib.Core.List.{List, [], _∷_}
 use native.Mathlib.Omega.{arith}
 use lib.Dec.{lit<}
-use Rattle.standard.specs.Answer.{Answer, got, refuse, Place, at}
+use Rattle.standard.specs.Answer.{Answer, got, refuse, at}
 use Rattle.standard.specs.Choose.{lookup}
 use Rattle.standard.specs.Bytes.{be, spell}
-use Rattle.standard.specs.Text.{faultDue}
 use Rattle.standard.specs.Codes.{codes, entryOf, isCode}
 use Rattle.standard.specs.Kinds.{kinds, styleOf, isKind, fair, flaw}
-use Rattle.standard.specs.Tree.{Tree, rows, text, tall}
+use Rattle.standard.specs.Tree.{rows, text, tall}
 use Rattle.standard.specs.Read.{cut, plain, leaf, coded, behind, payload, value, front}
 use Rattle.standard.specs.Table.{allowed, ranged, letters, children, firstIn, letter, several, row, tree, spent, table}
 use Rattle.standard.specs.Encode.{encode, compact, shortest}
-use Rattle.standard.specs.Outcomes.{levelMost, over, bytesOf, Writing, writtenTo, write, Extent, extent, measure, Reading, readInto, read, Step, end, part, Stepping, stepped, stepIn, step}
-use Rattle.laws.specs.Demand3.{Begins, Demand3, demand3}
+use Rattle.standard.specs.Outcomes.{levelMost, over, bytesOf, Writing, writtenTo, write, Extent, measure, Reading, readInto, read, Step, end, part, Stepping, stepped, stepIn, step}
+use Rattle.laws.specs.Demand3.{Begins, demand3}
 
 -- the promises of writing, of reading, of measuring and of the walker's step
 

@@ -8,7 +8,7 @@ use lib.ListN.{length, length-append, take-append-drop}
 use lib.Seq.{length-take-le}
 use Rattle.standard.specs.Answer.{Answer, at, inputShort, codeUnknown, elementUnfit, payloadBad, sizeAmiss}
 use Rattle.standard.specs.Bytes.{unbe}
-use Rattle.standard.specs.Tree.{Tree, Trees}
+use Rattle.standard.specs.Tree.{Tree}
 use Rattle.standard.specs.Codes.{Scalar, constant, whole, small, raw, sized, Layout, unknown, described, scalar, compound, array, layoutOf, kindOf, isCode, element}
 use Rattle.standard.specs.Kinds.{fair, clean, paired}
 use Rattle.standard.specs.Grammar.{Plain, constant′, whole′, small′, raw′, sized′, Many, none′, more′, Leaf, leaf′, Fields, fields′, Coded, coded′, Items, empty′, items′, Shape, scalar′, described′, compound′, array′, Payload, Form}

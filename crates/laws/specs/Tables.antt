@@ -3,13 +3,13 @@ use Prim.Native.Nat.{ℕ, zero, suc, _+_, _*_, _-_, _/_, _%_}
 use mathlib.Core.Path.{_≡_, refl, sym, ap, _∙_}
 use mathlib.Core.List.{List, [], _∷_, _++_, append-assoc, append-nil}
 use native.Mathlib.Omega.{arith}
-use lib.Dec.{T, eqb, leb, le→leb, leb→le}
+use lib.Dec.{eqb, leb, le→leb, leb→le}
 use lib.ListN.{length, length-append, take-append-drop}
 use lib.Seq.{length-take-le, take-at, drop-at}
-use Rattle.standard.specs.Answer.{Answer, got, refuse, at, rowsAmiss, kindUnknown, elementUnfit, numberOutside, textAmiss}
+use Rattle.standard.specs.Answer.{Answer, got, at, rowsAmiss, kindUnknown, elementUnfit, numberOutside, textAmiss}
 use Rattle.standard.specs.Tree.{Tree, node, Trees, none, more, root, count, rows, rows*, text, text*}
 use Rattle.standard.specs.Kinds.{styleOf, isKind, clean}
-use Rattle.standard.specs.Table.{Spot, any, allowed, ranged, letters, children, firstIn, next, Row, All, Valid, letter, several, row, tree, spent, table}
+use Rattle.standard.specs.Table.{Spot, any, allowed, ranged, letters, children, firstIn, next, All, Valid, letter, several, row, tree, spent, table}
 use Rattle.standard.specs.Facts.{T-true}
 use Rattle.laws.specs.Answers.{Holds, yes′, no′, on, out, need-holds}
 use Rattle.laws.specs.Bounds.{rows-length}

@@ -1,14 +1,14 @@
--- At most one front of a run of bytes is well-formed; reading finds it, and what stands behind it alters nothing.
+-- At most one front of a run of bytes is well-formed, and reading finds it.
 use Prim.Native.Nat.{ℕ, _+_}
 use mathlib.Core.Path.{_≡_, sym, ap, _∙_}
 use mathlib.Core.List.{List, _++_}
 use native.Mathlib.Omega.{arith}
 use lib.ListN.{length, take, length-append}
 use lib.Seq.{take-append-seam, take-at}
-use Rattle.standard.specs.Answer.{Answer, got, refuse, Place}
+use Rattle.standard.specs.Answer.{got}
 use Rattle.standard.specs.Tree.{Tree}
-use Rattle.standard.specs.Grammar.{Form, Formed}
-use Rattle.standard.specs.Read.{value, front}
+use Rattle.standard.specs.Grammar.{Formed}
+use Rattle.standard.specs.Read.{front}
 use Rattle.laws.specs.Answers.{Holds, weaken, out, Left}
 use Rattle.laws.specs.Complete.{complete}
 use Rattle.laws.specs.Sound.{sound}
@@ -43,15 +43,3 @@ unique l v w a b r s f g e =
     let q : _≡_ {A = Tree × List ℕ} (v, r) (w, s) = cc in
     let z : r ≡ s = ap (λ t. t .1) q in
     (ap (λ t. t .0) q, z, same-front a b r s z e)
-
--- where reading refuses, no front is well-formed
-pub refused : (l x : ℕ) (q : Place) (r : List ℕ) → front l r ≡ refuse x q → (v : Tree) (s : List ℕ) → Left (Formed l v) r s → ⊥
-refused l x q r e v s h =
-    let f : front l r ≡ got (v, s) = front-read l r s v h in
-    let z : _≡_ {A = ℕ} 0 1 = cc in omega arith
-
--- what stands behind a value alters nothing
-pub behind-nothing : (l : ℕ) (r s : List ℕ) (v : Tree) → front l r ≡ got (v, s) → (a : List ℕ) × (r ≡ a ++ s) × ((z : List ℕ) → front l (a ++ z) ≡ got (v, z))
-behind-nothing l r s v e =
-    let h = front-reads l r s v e in
-    (h .front, h .split, λ z. front-complete l v (h .front) z (h .holds))

@@ -1,17 +1,17 @@
 -- What is written is well-formed.
 use Prim.Native.Nat.{ℕ, zero, suc, _+_, _-_, _%_, _^_, _≤_, _<_}
-use mathlib.Core.Path.{_≡_, refl, sym, ap, _∙_, subst}
+use mathlib.Core.Path.{_≡_, refl, sym, _∙_, subst}
 use mathlib.Core.List.{List, [], _∷_, _++_}
-use mathlib.Core.Bool.{Bool, true, false, _||_, _&&_}
+use mathlib.Core.Bool.{Bool, true, false, _||_}
 use native.Mathlib.Omega.{arith}
 use lib.Dec.{T, eqb, leb, ltb, eqb→eq, ltb→lt, nltb→le, leb→le, lit<}
 use lib.ListN.{length, length-append}
 use Rattle.standard.specs.Choose.{if, lookup}
 use Rattle.standard.specs.Bytes.{be, unbe}
 use Rattle.standard.specs.Tree.{Tree, node, Trees, none, more, root, count}
-use Rattle.standard.specs.Codes.{Scalar, constant, whole, small, raw, sized, Layout, described, scalar, compound, array, entry, codes, entryOf, layoutOf, kindOf, filled, element}
-use Rattle.standard.specs.Kinds.{Short, never, flag, unsigned, signed, Style, foreign, numbered, blob, lettered, listed, mapped, arrayed, describing, Kind, kind, kinds, styleOf, plain, fair, clean, paired, named}
-use Rattle.standard.specs.Grammar.{extend, negative, Plain, constant′, whole′, small′, raw′, sized′, Many, none′, more′, Leaf, leaf′, Fields, fields′, Coded, coded′, Items, empty′, items′, Shape, scalar′, described′, compound′, array′, Payload, Form, Formed}
+use Rattle.standard.specs.Codes.{constant, whole, small, raw, sized, Layout, described, scalar, compound, array, entry, codes, entryOf, layoutOf, kindOf, filled, element}
+use Rattle.standard.specs.Kinds.{Short, never, flag, unsigned, signed, Style, foreign, numbered, blob, lettered, listed, mapped, arrayed, describing, Kind, kind, kinds, styleOf, plain, fair, clean, paired}
+use Rattle.standard.specs.Grammar.{extend, negative, constant′, whole′, small′, raw′, sized′, Many, none′, more′, Leaf, leaf′, Fields, fields′, coded′, Items, empty′, items′, Shape, scalar′, described′, compound′, array′, Payload, Form, Formed}
 use Rattle.standard.specs.Table.{most, Spot, any, first, like, allowed, ranged, letters, children, firstIn, next, Row, All, Valid}
 use Rattle.standard.specs.Encode.{fitsByte, shortEnd, shortest, enclosed, compact, wide, headed, encode, encode*, item, payloads}
 use Rattle.standard.specs.Facts.{and-left, and-right, if-case}

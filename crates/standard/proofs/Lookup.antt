@@ -1,6 +1,6 @@
 -- The last arm of a match is told that none of the keys before it is meant: then a table with these keys, in the arms' order, has no such entry.
 use Prim.Native.Nat.{ℕ}
-use mathlib.Core.Path.{_≡_, refl}
+use mathlib.Core.Path.{_≡_}
 use mathlib.Core.List.{List, [], _∷_}
 use Rattle.standard.specs.Choose.{lookup}
 use Rattle.standard.specs.Facts.{Absent, lookup-missing}

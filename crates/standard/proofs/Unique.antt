@@ -16,7 +16,7 @@ use Rattle.standard.specs.Codes
 use Rattle.standard.specs.Kinds
 use Rattle.standard.specs.Table
 use Rattle.standard.specs.Encode
-use Rattle.standard.specs.InCode.{layoutIs, entryIs, shortIs, styleIs}
+use Rattle.standard.specs.InCode.{layoutIs, entryIs, styleIs}
 use Rattle.standard.specs.declared.format_code.Layout.{Layout}
 use Rattle.standard.specs.declared.format_code.Layout.the-variants.{Unknown, Described, Constant, Whole, Small, Raw, Sized, Compound, Array}
 use Rattle.standard.specs.declared.format_code.Entry.{Entry}

@@ -1,12 +1,12 @@
 -- The 40 format codes of Part 1, and what stands behind each (Part 1, 1.2 and 1.6; docs/FORMAT.md, 4.1).
 -- `compare/codes` holds this table against Part 1's own in machine form.
-use Prim.Native.Nat.{ℕ}
+use Prim.Native.Nat.{ℕ, suc}
 use mathlib.Core.Path.{_≡_, refl}
 use mathlib.Core.List.{List, [], _∷_}
 use mathlib.Core.Bool.{Bool, true, false}
 use lib.Dec.{leb}
 use lib.ListN.{length}
-use Rattle.standard.specs.Choose.{lookup}
+use Rattle.standard.specs.Choose.{if, lookup}
 
 -- What stands behind the format code of a value with no values in it
 pub data Scalar : Type 0 where
@@ -115,3 +115,12 @@ element described = false
 element (scalar s) = filled s
 element (compound w) = false
 element (array w) = false
+
+-- 27 of the 40 may
+allowedIn : List Entry → ℕ
+allowedIn [] = 0
+allowedIn (e ∷ es) = if (element (e .layout)) (suc (allowedIn es)) (allowedIn es)
+
+twentySeven : allowedIn codes ≡ 27
+unfolding allowedIn codes element filled
+twentySeven = refl
