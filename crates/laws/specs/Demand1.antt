@@ -17,6 +17,7 @@ use Rattle.standard.specs.Tree.{Tree, tall, rows, text}
 use Rattle.standard.specs.Read.{front}
 use Rattle.standard.specs.Outcomes.{over, bytesOf, size, writtenTo, write, Extent, extent, measure, Reading, readInto, read, refused, stepped, stepIn, step}
 use Rattle.laws.specs.Bounds.{rows-length}
+use Rattle.laws.specs.Ranges.{Within, ofSize, ofWrite, ofMeasure, ofRead, size-range, write-range, measure-range, read-range}
 
 -- a lent buffer of which the first n are filled and no other is touched
 pub record Filled (n : ℕ) (before after : List ℕ) : Type 0 where
@@ -50,6 +51,11 @@ roomsFor w x m = do
   got e
 
 pub record Demand1 : Type 0 where
+  -- sizing refuses with 1 to 7, writing with 1 to 8, measuring with 3, 4 and 9 to 12, reading with these, 13 and 14
+  pub sizeNumbers : (l : ℕ) (w x : List ℕ) → Within ofSize (size l w x)
+  pub writeNumbers : (l : ℕ) (w x o : List ℕ) → Within ofWrite (write l w x o .answer)
+  pub measureNumbers : (l : ℕ) (r : List ℕ) → Within ofMeasure (measure l r)
+  pub readNumbers : (l : ℕ) (r w x : List ℕ) → Within ofRead (read l r w x .answer)
   -- writing answers as sizing does, but for 8
   pub writing : (l : ℕ) (w x o : List ℕ) → write l w x o .answer ≡ roomFor o (size l w x)
   -- a refusal leaves the output as it was; what is written fills its front and touches nothing beyond
@@ -148,6 +154,10 @@ stays-at l i (b ∷ r) n p e = by (measure l (b ∷ r)) e
 pub demand1 : Demand1
 unfolding size write measure read step
 demand1 = record {
+    sizeNumbers = size-range;
+    writeNumbers = write-range;
+    measureNumbers = measure-range;
+    readNumbers = read-range;
   writing = λ l w x o. writing-of o (bytesOf l w x);
   output = λ l w x o. output-of o (bytesOf l w x);
   reading = λ l r w x. reading-of w x (length r) (front l r);

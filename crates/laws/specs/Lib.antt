@@ -17,6 +17,7 @@ pub mod Written
 pub mod Tables
 pub mod Round
 pub mod Limits
+pub mod Ranges
 pub mod Flat
 pub mod Flow
 pub mod Stores

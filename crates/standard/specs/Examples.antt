@@ -159,3 +159,13 @@ listed : listing 32 (0xc1 ∷ 6 ∷ 2 ∷ 0xa3 ∷ 1 ∷ 0x76 ∷ 0x52 ∷ 2 ∷
     ∷ 101 ∷ 110 ∷ 100 ∷ 32 ∷ 56 ∷ 10 ∷ []
 unfolding listing shown lines line decimalIn hex hexDigit lookup spell faultDue leadIn ascii codes entryOf isCode filled element fair flaw paired rows extend negative cut plain leaf many done fields held items inside coded behind payload value front
 listed = refl
+
+-- the longest text of the short form, and the shortest of the wide one
+limits : (size 32 (0xb0 ∷ 254 ∷ []) (replicate 254 0) ≡ got 256) × (size 32 (0xb0 ∷ 255 ∷ []) (replicate 255 0) ≡ got 260)
+unfolding size bytesOf table tree row several letter spent allowed ranged letters children firstIn next styleOf lookup kinds isKind plainStyle fair flaw encode compact shortest headed item payloads wide enclosed fitsByte be count
+limits = (refl, refl)
+
+-- 54 ff is −1, and 54 7f is 127
+signs : (extend 4 0xff ≡ 0xffffffff) × (extend 4 0x7f ≡ 0x7f)
+unfolding extend negative
+signs = (refl, refl)

@@ -1,0 +1,113 @@
+/* Afsungar: AMQP 1.0 values to bytes and back. docs/FORMAT.md says what a table is, which bytes it has and what is refused.
+ *
+ * Link with libexport.a, which `rt staticlib export` makes (x86-64):   cc program.c libexport.a
+ *
+ * A table is words, two to a row (kind, number), the parent first, and beside them the text: the bytes of all rows that have
+ * some, in the order of the rows.
+ *
+ * What is answered
+ *   Each function returns the number of the refusal, 1 to 14 (below), or 0 for success. All else that it answers is stored
+ *   behind the last pointers, and each of them is always stored. On success *place is 0. On a refusal *place says where: in
+ *   writing a row, in reading an offset, both from 0; every length and count is 0; and all lent memory is as it was. On
+ *   success nothing is touched behind what is filled.
+ *
+ * What is lent
+ *   - A length is the number of elements: words_len counts words, so rows times 2; all other lengths count bytes.
+ *   - No pointer may be null, not even where its length is 0: what is promised is promised of memory that is lent. To lend
+ *     nothing, point to anything of the type and give 0 as the length; nothing is then read or written there.
+ *   - Words and answers are uint64_t, aligned as such.
+ *   - Memory that is filled (out, words and text of afsungar_read, and every answer) must not overlap other memory that is
+ *     lent to the same call.
+ *   - An odd number of words breaks nothing: sizing and writing refuse it (1 at place 0), and for afsungar_read the lone last
+ *     word is room for no row and stays as it is.
+ *
+ * Nothing is allocated, nothing is kept between calls and no pointer is held, so calls from any number of threads are
+ * independent of each other, as long as none fills memory that another uses. The need of stack is bounded, because the nesting of
+ * values ends at level 32: on x86-64 it was measured as less than 20 KiB. */
+#ifndef AFSUNGAR_H
+#define AFSUNGAR_H
+
+#include <stddef.h>
+#include <stdint.h>
+
+#ifdef __cplusplus
+extern "C" {
+#endif
+
+/* The numbers of the refusals (docs/FORMAT.md, 5.1). */
+enum afsungar_refusal {
+    AFSUNGAR_ROWS_AMISS = 1,      /* words odd in number; a row is needed and none is left; rows are left at the end */
+    AFSUNGAR_KIND_UNKNOWN = 2,    /* the kind is not one of the 25 */
+    AFSUNGAR_TOO_DEEP = 3,        /* a value would be at level 33 */
+    AFSUNGAR_ELEMENT_UNFIT = 4,   /* an array element's kind or code is not allowed; in writing also: unlike the first one's */
+    AFSUNGAR_NUMBER_OUTSIDE = 5,  /* the number is not one that its kind allows */
+    AFSUNGAR_TEXT_AMISS = 6,      /* too little text for the row, or bad text; text is left at the end */
+    AFSUNGAR_TOO_LONG = 7,        /* more than 1,048,576 bytes would be written */
+    AFSUNGAR_OUTPUT_SHORT = 8,    /* the output is shorter than the size */
+    AFSUNGAR_INPUT_SHORT = 9,     /* a byte is needed beyond the input, or beyond the body that the value stands in */
+    AFSUNGAR_CODE_UNKNOWN = 10,   /* the format code is not one of the 40 */
+    AFSUNGAR_PAYLOAD_BAD = 11,    /* the payload of a boolean, char, string or symbol is bad */
+    AFSUNGAR_SIZE_AMISS = 12,     /* a size is below its count field; bytes are left in a body; a map's count is odd */
+    AFSUNGAR_ROWS_SHORT = 13,     /* the lent words are too few for the rows */
+    AFSUNGAR_TEXT_SHORT = 14      /* the lent text is too short */
+};
+
+/* The 25 kinds of a row (docs/FORMAT.md, 2.2). */
+enum afsungar_kind {
+    AFSUNGAR_DESCRIBED = 0x00,  /* number 2; two children: descriptor, then value */
+    AFSUNGAR_NULL = 0x40,       /* number 0 */
+    AFSUNGAR_UBYTE = 0x50,      /* the value, as for all whole numbers; signed ones in two's complement at their own width, */
+    AFSUNGAR_BYTE = 0x51,       /* with all bits above zero: int -1 is 4294967295 */
+    AFSUNGAR_BOOLEAN = 0x56,    /* 0 false, 1 true */
+    AFSUNGAR_USHORT = 0x60,
+    AFSUNGAR_SHORT = 0x61,
+    AFSUNGAR_UINT = 0x70,
+    AFSUNGAR_INT = 0x71,
+    AFSUNGAR_FLOAT = 0x72,      /* its bits, as for double and the decimals */
+    AFSUNGAR_CHAR = 0x73,       /* the code point */
+    AFSUNGAR_DECIMAL32 = 0x74,
+    AFSUNGAR_ULONG = 0x80,
+    AFSUNGAR_LONG = 0x81,
+    AFSUNGAR_DOUBLE = 0x82,
+    AFSUNGAR_TIMESTAMP = 0x83,  /* milliseconds since 1970, in two's complement */
+    AFSUNGAR_DECIMAL64 = 0x84,
+    AFSUNGAR_DECIMAL128 = 0x94, /* number 0, and 16 bytes of text */
+    AFSUNGAR_UUID = 0x98,       /* number 0, and 16 bytes of text */
+    AFSUNGAR_BINARY = 0xb0,     /* the length in bytes, and so much text */
+    AFSUNGAR_STRING = 0xb1,     /* the same, in UTF-8 */
+    AFSUNGAR_SYMBOL = 0xb3,     /* the same, in ASCII */
+    AFSUNGAR_LIST = 0xd0,       /* the number of children */
+    AFSUNGAR_MAP = 0xd1,        /* the number of keys plus values; children: key, value, key, value, .. */
+    AFSUNGAR_ARRAY = 0xf0       /* the number of children, which are all of one kind */
+};
+
+/* The number of bytes that afsungar_write writes. Refusals: 1 to 7. */
+uint64_t afsungar_size(const uint64_t *words, size_t words_len, const uint8_t *text, size_t text_len,
+                       uint64_t *place, uint64_t *length);
+
+/* Writes a table's bytes to the start of out. *length: their number. Refusals: 1 to 8. */
+uint64_t afsungar_write(const uint64_t *words, size_t words_len, const uint8_t *text, size_t text_len,
+                        uint8_t *out, size_t out_len, uint64_t *place, uint64_t *length);
+
+/* Measures the value at the start of bytes: its length, and the rows and bytes of text that reading it fills. Bytes behind the
+ * value are not looked at. Refusals: 3, 4, 9 to 12. */
+uint64_t afsungar_measure(const uint8_t *bytes, size_t len,
+                          uint64_t *place, uint64_t *length, uint64_t *rows, uint64_t *text);
+
+/* Reads the value at the start of bytes into words, two to a row, and text. *length: its bytes; *rows and *text_used: what was
+ * filled. There is room enough with two words and one byte of text for each byte that is read. Refusals: those of
+ * afsungar_measure, 13 and 14. */
+uint64_t afsungar_read(const uint8_t *bytes, size_t len, uint64_t *words, size_t words_len, uint8_t *text, size_t text_len,
+                       uint64_t *place, uint64_t *length, uint64_t *rows, uint64_t *text_used);
+
+/* A step of the walker through values that stand end to end; the caller keeps its place, *at, at first 0.
+ *   0 with length 0: done. That is where *at is len or more; *at stays.
+ *   0 with a length: a value of so many bytes at *at as it was, and *at has moved behind it.
+ *   Otherwise a refusal, those of afsungar_measure: *at stays, and *place is counted from it. */
+uint64_t afsungar_step(const uint8_t *bytes, size_t len, uint64_t *at, uint64_t *place, uint64_t *length);
+
+#ifdef __cplusplus
+}
+#endif
+
+#endif

@@ -1,0 +1,295 @@
+use std::mem;
+
+use crate::{Kind, Table, Value};
+
+/// Puts a table together, value by value; see [`Table::build`].
+///
+/// There is a method for each of the 25 kinds. Those with children take a closure that puts the children in; their number
+/// is counted. Nothing is checked on the way: the writer checks, and says which row is wrong.
+///
+/// ```
+/// # fn main() -> Result<(), afsungar::Refusal> {
+/// use afsungar::Table;
+///
+/// let map = Table::build(|t| {
+///     t.map(|t| {
+///         t.symbol("left").uint(2);
+///         t.symbol("sizes").array_of(["Ø1.2", "M4"]);
+///     });
+/// });
+/// assert_eq!(map.to_string(), "0 d1 4\n1 b3 4\n2 70 2\n3 b3 5\n4 f0 2\n5 b1 5\n6 b1 2\n");
+/// assert_eq!(map.to_bytes()?.len(), 37);
+/// # Ok(())
+/// # }
+/// ```
+#[derive(Clone, Debug, Default)]
+pub struct Builder {
+    words: Vec<u64>,
+    text: Vec<u8>,
+    /// Values put in at this level.
+    count: u64,
+    /// Values to come that are not of this level, because `push` or `row` put in a parent that said how many it has.
+    due: u64,
+}
+
+impl Builder {
+    /// An empty one.
+    #[must_use]
+    pub fn new() -> Self {
+        Builder::default()
+    }
+
+    /// The table that was put together.
+    #[must_use]
+    pub fn finish(self) -> Table {
+        Table::from_parts(self.words, self.text)
+    }
+
+    /// Null.
+    pub fn null(&mut self) -> &mut Self {
+        self.push(Value::Null)
+    }
+
+    /// True or false.
+    pub fn boolean(&mut self, value: bool) -> &mut Self {
+        self.push(value)
+    }
+
+    /// 8 bits, unsigned.
+    pub fn ubyte(&mut self, value: u8) -> &mut Self {
+        self.push(value)
+    }
+
+    /// 16 bits, unsigned.
+    pub fn ushort(&mut self, value: u16) -> &mut Self {
+        self.push(value)
+    }
+
+    /// 32 bits, unsigned.
+    pub fn uint(&mut self, value: u32) -> &mut Self {
+        self.push(value)
+    }
+
+    /// 64 bits, unsigned.
+    pub fn ulong(&mut self, value: u64) -> &mut Self {
+        self.push(value)
+    }
+
+    /// 8 bits, signed.
+    pub fn byte(&mut self, value: i8) -> &mut Self {
+        self.push(value)
+    }
+
+    /// 16 bits, signed.
+    pub fn short(&mut self, value: i16) -> &mut Self {
+        self.push(value)
+    }
+
+    /// 32 bits, signed.
+    pub fn int(&mut self, value: i32) -> &mut Self {
+        self.push(value)
+    }
+
+    /// 64 bits, signed.
+    pub fn long(&mut self, value: i64) -> &mut Self {
+        self.push(value)
+    }
+
+    /// 32 bits, binary floating point.
+    pub fn float(&mut self, value: f32) -> &mut Self {
+        self.push(value)
+    }
+
+    /// 64 bits, binary floating point.
+    pub fn double(&mut self, value: f64) -> &mut Self {
+        self.push(value)
+    }
+
+    /// The 32 bits of a decimal floating point number.
+    pub fn decimal32(&mut self, bits: u32) -> &mut Self {
+        self.push(Value::Decimal32(bits))
+    }
+
+    /// The 64 bits of a decimal floating point number.
+    pub fn decimal64(&mut self, bits: u64) -> &mut Self {
+        self.push(Value::Decimal64(bits))
+    }
+
+    /// The 128 bits of a decimal floating point number, most significant byte first.
+    pub fn decimal128(&mut self, bytes: [u8; 16]) -> &mut Self {
+        self.push(Value::Decimal128(bytes))
+    }
+
+    /// A Unicode scalar value.
+    pub fn char(&mut self, value: char) -> &mut Self {
+        self.push(value)
+    }
+
+    /// Milliseconds since 1970.
+    pub fn timestamp(&mut self, milliseconds: i64) -> &mut Self {
+        self.push(Value::Timestamp(milliseconds))
+    }
+
+    /// A UUID.
+    pub fn uuid(&mut self, bytes: [u8; 16]) -> &mut Self {
+        self.push(Value::Uuid(bytes))
+    }
+
+    /// Any bytes.
+    pub fn binary(&mut self, bytes: impl AsRef<[u8]>) -> &mut Self {
+        self.push(Value::Binary(bytes.as_ref()))
+    }
+
+    /// A string.
+    pub fn string(&mut self, text: impl AsRef<str>) -> &mut Self {
+        self.push(Value::String(text.as_ref()))
+    }
+
+    /// A symbol, which is ASCII: another one is refused when it is written ([`TextAmiss`](crate::Reason::TextAmiss)).
+    pub fn symbol(&mut self, text: impl AsRef<str>) -> &mut Self {
+        self.push(Value::Symbol(text.as_ref()))
+    }
+
+    /// A list of what `children` puts in.
+    pub fn list(&mut self, children: impl FnOnce(&mut Self)) -> &mut Self {
+        self.parent(Kind::List, children)
+    }
+
+    /// A map of what `entries` puts in: key, value, key, value, and so on.
+    pub fn map(&mut self, entries: impl FnOnce(&mut Self)) -> &mut Self {
+        self.parent(Kind::Map, entries)
+    }
+
+    /// An array of what `elements` puts in: all of one kind, which is not null, list, map, array or described.
+    pub fn array(&mut self, elements: impl FnOnce(&mut Self)) -> &mut Self {
+        self.parent(Kind::Array, elements)
+    }
+
+    /// A described value; `both` puts in the descriptor, then the value.
+    ///
+    /// ```
+    /// # fn main() -> Result<(), afsungar::Refusal> {
+    /// let empty = afsungar::Table::build(|t| {
+    ///     t.described(|t| {
+    ///         t.ulong(36).list(|_| {});
+    ///     });
+    /// });
+    /// assert_eq!(empty.to_bytes()?, [0x00, 0x53, 0x24, 0x45]);
+    /// # Ok(())
+    /// # }
+    /// ```
+    pub fn described(&mut self, both: impl FnOnce(&mut Self)) -> &mut Self {
+        self.parent(Kind::Described, both)
+    }
+
+    /// A list of these values.
+    pub fn list_of<'a, V: Into<Value<'a>>>(&mut self, children: impl IntoIterator<Item = V>) -> &mut Self {
+        self.list(|t| t.extend(children))
+    }
+
+    /// An array of these values.
+    pub fn array_of<'a, V: Into<Value<'a>>>(&mut self, elements: impl IntoIterator<Item = V>) -> &mut Self {
+        self.array(|t| t.extend(elements))
+    }
+
+    /// A map of these keys and values.
+    ///
+    /// ```
+    /// use afsungar::{Table, Value};
+    ///
+    /// let map = Table::build(|t| {
+    ///     t.map_of([(Value::Symbol("left"), 2u32), (Value::Symbol("right"), 1u32)]);
+    /// });
+    /// assert_eq!(map.rows().next().map(|row| row.count()), Some(4));
+    /// ```
+    pub fn map_of<'a, K: Into<Value<'a>>, V: Into<Value<'a>>>(
+        &mut self,
+        entries: impl IntoIterator<Item = (K, V)>,
+    ) -> &mut Self {
+        self.map(|t| {
+            for (key, value) in entries {
+                t.push(key).push(value);
+            }
+        })
+    }
+
+    /// One value, of Rust's own types or a [`Value`]. Behind one that has children, they are the values that come next.
+    pub fn push<'a>(&mut self, value: impl Into<Value<'a>>) -> &mut Self {
+        let value = value.into();
+        self.row(value.kind().code(), value.number(), value.text())
+    }
+
+    /// A row as it stands, whatever it holds. Behind one that has children, they are the values that come next.
+    pub fn row(&mut self, kind: u64, number: u64, text: impl AsRef<[u8]>) -> &mut Self {
+        self.enter(kind, number);
+        self.text.extend_from_slice(text.as_ref());
+        if Kind::from_code(kind).is_some_and(Kind::has_children) {
+            self.due = self.due.saturating_add(number);
+        }
+        self
+    }
+
+    /// The value of another table, with all that is below it.
+    ///
+    /// ```
+    /// use afsungar::Table;
+    ///
+    /// let part = Table::build(|t| {
+    ///     t.list_of(["Ø1.2", "M4"]);
+    /// });
+    /// let twice = Table::build(|t| {
+    ///     t.list(|t| {
+    ///         t.table(&part).table(&part);
+    ///     });
+    /// });
+    /// assert_eq!(twice.rows().map(|row| row.count()).collect::<Vec<_>>(), [2, 2, 0, 0, 2, 0, 0]);
+    /// ```
+    pub fn table(&mut self, table: &Table) -> &mut Self {
+        self.one();
+        self.words.extend_from_slice(table.words());
+        self.text.extend_from_slice(table.text());
+        self
+    }
+
+    /// A row with the number of what `children` puts in.
+    fn parent(&mut self, kind: Kind, children: impl FnOnce(&mut Self)) -> &mut Self {
+        self.enter(kind.code(), 0);
+        let row = self.words.len();
+        let outer = (mem::take(&mut self.count), mem::take(&mut self.due));
+        children(self);
+        // The closure may have put another builder in this one's place, so the row may be gone.
+        if let Some(number) = row.checked_sub(1).and_then(|at| self.words.get_mut(at)) {
+            *number = self.count;
+        }
+        (self.count, self.due) = outer;
+        self
+    }
+
+    fn enter(&mut self, kind: u64, number: u64) {
+        self.one();
+        self.words.extend([kind, number]);
+    }
+
+    /// One more value at this level, or one less due.
+    fn one(&mut self) {
+        if self.due > 0 {
+            self.due -= 1;
+        } else {
+            self.count += 1;
+        }
+    }
+}
+
+impl<'a, V: Into<Value<'a>>> Extend<V> for Builder {
+    fn extend<I: IntoIterator<Item = V>>(&mut self, values: I) {
+        for value in values {
+            self.push(value);
+        }
+    }
+}
+
+impl From<Builder> for Table {
+    fn from(builder: Builder) -> Table {
+        builder.finish()
+    }
+}

@@ -1,0 +1,205 @@
+use std::error::Error;
+use std::fmt;
+use std::io;
+
+/// Why nothing was done: one of fourteen reasons, and where.
+///
+/// In writing the place is a row, in reading an offset, both counted from 0: [`row`](Refusal::row) and
+/// [`offset`](Refusal::offset) tell which. All lent memory is as it was before the call.
+///
+/// ```
+/// use afsungar::{measure, size, Reason, Refusal};
+///
+/// let refusal = size(&[0xd0, 1, 0x56, 2], &[]).unwrap_err(); // a list of one boolean, which is neither 0 nor 1
+/// assert_eq!(refusal, Refusal::writing(Reason::NumberOutside, 1));
+/// assert_eq!((refusal.number, refusal.row()), (5, Some(1)));
+/// assert_eq!(refusal.to_string(), "the number is not one that the row's kind allows (5) at row 1");
+///
+/// let refusal = measure(&[0xc0, 0x01, 0x01]).unwrap_err(); // a list that says it has a child, and has none
+/// assert_eq!(refusal, Refusal::reading(Reason::InputShort, 3));
+/// assert_eq!(refusal.to_string(), "a value goes on beyond its bytes (9) at offset 3");
+/// ```
+#[derive(Clone, Copy, Debug, PartialEq, Eq, Hash)]
+pub struct Refusal {
+    /// The number of the reason, 1 to 14 (docs/FORMAT.md, 5.1).
+    pub number: u8,
+    /// A row or an offset, from 0. For reasons that are of no one place (7, 8, 13, 14) it is 0.
+    pub place: u64,
+    reason: Reason,
+    task: Task,
+}
+
+/// What was asked for when a refusal was given.
+#[derive(Clone, Copy, Debug, PartialEq, Eq, Hash)]
+pub enum Task {
+    /// Sizing or writing a table: the place is a row.
+    Writing,
+    /// Measuring, reading or walking: the place is an offset.
+    Reading,
+}
+
+/// The fourteen reasons of a refusal, by the names and numbers of docs/FORMAT.md, 5.1.
+///
+/// ```
+/// use afsungar::Reason;
+///
+/// assert_eq!(Reason::OutputShort.number(), 8);
+/// assert_eq!(Reason::from_number(8), Some(Reason::OutputShort));
+/// assert_eq!(Reason::ALL.len(), 14);
+/// ```
+#[derive(Clone, Copy, Debug, PartialEq, Eq, PartialOrd, Ord, Hash)]
+#[repr(u8)]
+pub enum Reason {
+    /// 1: the words are odd in number; a row is needed and none is left; rows are left at the end.
+    RowsAmiss = 1,
+    /// 2: the kind is not one of the 25.
+    KindUnknown = 2,
+    /// 3: a value would be at level 33.
+    TooDeep = 3,
+    /// 4: an array element's kind or code is not allowed; in writing also: it is unlike the first element's.
+    ElementUnfit = 4,
+    /// 5: the number is not one that its kind allows.
+    NumberOutside = 5,
+    /// 6: the text left is too short for the row, or bad for it; text is left at the end.
+    TextAmiss = 6,
+    /// 7: more than 1,048,576 bytes would be written.
+    TooLong = 7,
+    /// 8: the output is shorter than the size.
+    OutputShort = 8,
+    /// 9: a byte is needed beyond the input, or beyond the list, map or array that the value stands in.
+    ///
+    /// Every front part of a value is refused so, but more bytes do not always help: the size of a compound that is
+    /// too small for its children gives 9 as well.
+    InputShort = 9,
+    /// 10: the format code is not one of the 40.
+    CodeUnknown = 10,
+    /// 11: the payload of a boolean, char, string or symbol is bad.
+    PayloadBad = 11,
+    /// 12: a size is below its count field; bytes are left in a body; a map's count is odd.
+    SizeAmiss = 12,
+    /// 13: the lent rows are too few for the result.
+    RowsShort = 13,
+    /// 14: the lent text is too short for the result.
+    TextShort = 14,
+}
+
+impl Reason {
+    /// All fourteen, by number.
+    pub const ALL: [Reason; 14] = [
+        Reason::RowsAmiss,
+        Reason::KindUnknown,
+        Reason::TooDeep,
+        Reason::ElementUnfit,
+        Reason::NumberOutside,
+        Reason::TextAmiss,
+        Reason::TooLong,
+        Reason::OutputShort,
+        Reason::InputShort,
+        Reason::CodeUnknown,
+        Reason::PayloadBad,
+        Reason::SizeAmiss,
+        Reason::RowsShort,
+        Reason::TextShort,
+    ];
+
+    /// Its number, 1 to 14.
+    #[must_use]
+    pub const fn number(self) -> u8 {
+        self as u8
+    }
+
+    /// The reason of a number.
+    #[must_use]
+    pub fn from_number(number: u8) -> Option<Reason> {
+        Reason::ALL.into_iter().find(|reason| reason.number() == number)
+    }
+}
+
+impl From<Reason> for u8 {
+    fn from(reason: Reason) -> u8 {
+        reason.number()
+    }
+}
+
+impl Refusal {
+    /// A refusal of sizing or writing. Where the reason is of no one row, the place is 0.
+    #[must_use]
+    pub const fn writing(reason: Reason, row: u64) -> Self {
+        Refusal { number: reason.number(), place: row, reason, task: Task::Writing }
+    }
+
+    /// A refusal of measuring, reading or walking. Where the reason is of no one offset, the place is 0.
+    #[must_use]
+    pub const fn reading(reason: Reason, offset: u64) -> Self {
+        Refusal { number: reason.number(), place: offset, reason, task: Task::Reading }
+    }
+
+    /// Why.
+    #[must_use]
+    pub const fn reason(&self) -> Reason {
+        self.reason
+    }
+
+    /// Whether it was in writing or in reading.
+    #[must_use]
+    pub const fn task(&self) -> Task {
+        self.task
+    }
+
+    /// The row where writing ended, from 0. It is the number of rows where a row is missing or text is left at the end.
+    #[must_use]
+    pub fn row(&self) -> Option<u64> {
+        (self.task == Task::Writing && self.has_place()).then_some(self.place)
+    }
+
+    /// The offset of the value where reading ended, from 0: of its format code, or of where that would be.
+    #[must_use]
+    pub fn offset(&self) -> Option<u64> {
+        (self.task == Task::Reading && self.has_place()).then_some(self.place)
+    }
+
+    fn has_place(&self) -> bool {
+        !matches!(self.reason, Reason::TooLong | Reason::OutputShort | Reason::RowsShort | Reason::TextShort)
+    }
+}
+
+impl fmt::Display for Refusal {
+    fn fmt(&self, f: &mut fmt::Formatter<'_>) -> fmt::Result {
+        let words = match (self.reason, self.task) {
+            (Reason::RowsAmiss, _) => "a row is missing or left over",
+            (Reason::KindUnknown, _) => "the kind is not one of the 25",
+            (Reason::TooDeep, _) => "a value stands deeper than level 32",
+            (Reason::ElementUnfit, Task::Writing) => "an array element's kind is not allowed or unlike the first one's",
+            (Reason::ElementUnfit, Task::Reading) => "an array's element code is not allowed",
+            (Reason::NumberOutside, _) => "the number is not one that the row's kind allows",
+            (Reason::TextAmiss, _) => "text is missing, left over or not valid for the row",
+            (Reason::TooLong, _) => "more than 1,048,576 bytes would be written",
+            (Reason::OutputShort, _) => "the output is too short",
+            (Reason::InputShort, _) => "a value goes on beyond its bytes",
+            (Reason::CodeUnknown, _) => "the format code is not one of the 40",
+            (Reason::PayloadBad, _) => "a boolean, char, string or symbol is not valid",
+            (Reason::SizeAmiss, _) => "a size or count does not fit its body",
+            (Reason::RowsShort, _) => "the room for rows is too small",
+            (Reason::TextShort, _) => "the room for text is too small",
+        };
+        write!(f, "{words} ({})", self.reason.number())?;
+        match (self.row(), self.offset()) {
+            (Some(row), _) => write!(f, " at row {row}"),
+            (_, Some(offset)) => write!(f, " at offset {offset}"),
+            _ => Ok(()),
+        }
+    }
+}
+
+impl Error for Refusal {}
+
+/// Of the kind `InvalidInput` in writing and `InvalidData` in reading.
+impl From<Refusal> for io::Error {
+    fn from(refusal: Refusal) -> io::Error {
+        let kind = match refusal.task {
+            Task::Writing => io::ErrorKind::InvalidInput,
+            Task::Reading => io::ErrorKind::InvalidData,
+        };
+        io::Error::new(kind, refusal)
+    }
+}

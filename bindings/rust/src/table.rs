@@ -1,0 +1,391 @@
+use std::fmt;
+use std::iter::FusedIterator;
+use std::str;
+
+use crate::{call, Builder, Extent, Kind, Reason, Refusal, Value};
+
+/// A value as rows and text.
+///
+/// A row is two words, its kind and its number. A parent's row stands first, then its children in order, each with all that
+/// is below it. The text holds the bytes of all rows that have some, in the order of the rows.
+///
+/// A table that was read is always good. One that was put together may hold anything; the writer checks it.
+///
+/// ```
+/// # fn main() -> Result<(), afsungar::Refusal> {
+/// use afsungar::{Table, Value};
+///
+/// let table = Table::build(|t| {
+///     t.list(|t| {
+///         t.uint(255).string("Ø1.2").array_of([1.5f32, -0.0]);
+///     });
+/// });
+/// let bytes = table.to_bytes()?;
+/// let again = Table::from_bytes(&bytes)?;
+/// assert_eq!(again, table);
+///
+/// let [Value::List(3), Value::Uint(n), Value::String(s), Value::Array(2), ..] = again.values()?[..] else {
+///     panic!("not what was written");
+/// };
+/// assert_eq!((n, s), (255, "Ø1.2"));
+/// # Ok(())
+/// # }
+/// ```
+///
+/// `Display` prints what the repository's listing prints of a value: for each row a line with its index, its kind in hex and
+/// its number. The listing adds a last line, `end` and the value's length in bytes.
+#[derive(Clone, Default, PartialEq, Eq, Hash)]
+pub struct Table {
+    words: Vec<u64>,
+    text: Vec<u8>,
+}
+
+impl Table {
+    /// Puts a table together.
+    #[must_use]
+    pub fn build(value: impl FnOnce(&mut Builder)) -> Self {
+        let mut builder = Builder::new();
+        value(&mut builder);
+        builder.finish()
+    }
+
+    /// A table of these words and this text, whatever they hold.
+    #[must_use]
+    pub const fn from_parts(words: Vec<u64>, text: Vec<u8>) -> Self {
+        Table { words, text }
+    }
+
+    /// Its words and its text.
+    #[must_use]
+    pub fn into_parts(self) -> (Vec<u64>, Vec<u8>) {
+        (self.words, self.text)
+    }
+
+    /// Reads the value at the start of the bytes, as [`read_to_table`](crate::read_to_table) does.
+    pub fn from_bytes(bytes: &[u8]) -> Result<Self, Refusal> {
+        let extent = call::measure(bytes)?;
+        // A value has at least a byte for each row and for each byte of text, so this is no more than the bytes call for.
+        let mut table = Table { words: vec![0; 2 * extent.rows], text: vec![0; extent.text] };
+        call::read(bytes, &mut table.words, &mut table.text)?;
+        Ok(table)
+    }
+
+    /// Reads the value at the start of the bytes into this table, whose memory is used again. On a refusal the table is as
+    /// it was.
+    pub fn read_from(&mut self, bytes: &[u8]) -> Result<Extent, Refusal> {
+        let extent = call::measure(bytes)?;
+        self.words.resize(2 * extent.rows, 0);
+        self.text.resize(extent.text, 0);
+        call::read(bytes, &mut self.words, &mut self.text)
+    }
+
+    /// The number of bytes that it is written in.
+    pub fn size(&self) -> Result<usize, Refusal> {
+        call::size(&self.words, &self.text)
+    }
+
+    /// The bytes that it is written in.
+    pub fn to_bytes(&self) -> Result<Vec<u8>, Refusal> {
+        crate::write_to_vec(&self.words, &self.text)
+    }
+
+    /// Writes it to the start of `out` and gives the number of bytes written. On a refusal `out` is as it was.
+    pub fn write_to(&self, out: &mut [u8]) -> Result<usize, Refusal> {
+        call::write(&self.words, &self.text, out)
+    }
+
+    /// Its words, two to a row.
+    #[must_use]
+    pub fn words(&self) -> &[u64] {
+        &self.words
+    }
+
+    /// Its text.
+    #[must_use]
+    pub fn text(&self) -> &[u8] {
+        &self.text
+    }
+
+    /// The number of its rows.
+    #[must_use]
+    pub fn len(&self) -> usize {
+        self.words.len() / 2
+    }
+
+    /// Whether it has no rows. (Then it holds no value, and the writer refuses it.)
+    #[must_use]
+    pub fn is_empty(&self) -> bool {
+        self.len() == 0
+    }
+
+    /// Its rows in order.
+    pub fn rows(&self) -> Rows<'_> {
+        Rows { cursor: Cursor { index: 0, words: &self.words, text: &self.text } }
+    }
+
+    /// The first row, from which all others are reached by [`Row::children`].
+    #[must_use]
+    pub fn root(&self) -> Option<Row<'_>> {
+        self.rows().next()
+    }
+
+    /// What each row holds, in order. It is refused where a row is none of its kind, as [`Row::value`] is.
+    pub fn values(&self) -> Result<Vec<Value<'_>>, Refusal> {
+        self.rows().map(|row| row.value()).collect()
+    }
+}
+
+impl fmt::Display for Table {
+    fn fmt(&self, f: &mut fmt::Formatter<'_>) -> fmt::Result {
+        self.rows().try_for_each(|row| writeln!(f, "{row}"))
+    }
+}
+
+impl fmt::Debug for Table {
+    fn fmt(&self, f: &mut fmt::Formatter<'_>) -> fmt::Result {
+        let mut rows = self.rows();
+        f.write_str("Table ")?;
+        let mut list = f.debug_list();
+        list.entries(&mut rows);
+        // What is no row and no row's text.
+        if let [word] = rows.cursor.words {
+            list.entry(&format_args!("lone word {word}"));
+        }
+        if !rows.cursor.text.is_empty() {
+            list.entry(&format_args!("text left {:?}", rows.cursor.text));
+        }
+        list.finish()
+    }
+}
+
+/// A table of one row.
+impl From<Value<'_>> for Table {
+    fn from(value: Value<'_>) -> Self {
+        Table::from_iter([value])
+    }
+}
+
+/// A table of these rows.
+impl<'a, V: Into<Value<'a>>> FromIterator<V> for Table {
+    fn from_iter<I: IntoIterator<Item = V>>(rows: I) -> Self {
+        Table::build(|t| t.extend(rows))
+    }
+}
+
+/// Reads the value at the start of the bytes.
+impl TryFrom<&[u8]> for Table {
+    type Error = Refusal;
+
+    fn try_from(bytes: &[u8]) -> Result<Self, Refusal> {
+        Table::from_bytes(bytes)
+    }
+}
+
+/// Writes the table.
+impl TryFrom<&Table> for Vec<u8> {
+    type Error = Refusal;
+
+    fn try_from(table: &Table) -> Result<Self, Refusal> {
+        table.to_bytes()
+    }
+}
+
+impl<'a> IntoIterator for &'a Table {
+    type Item = Row<'a>;
+    type IntoIter = Rows<'a>;
+
+    fn into_iter(self) -> Rows<'a> {
+        self.rows()
+    }
+}
+
+/// A row of a table.
+///
+/// `Display` prints the line that the listing has for it, without the newline.
+#[derive(Clone, Copy)]
+pub struct Row<'a> {
+    /// Which row it is, from 0.
+    pub index: usize,
+    /// Its kind as a word; [`Kind::from_code`] names it.
+    pub kind: u64,
+    /// Its number: the value itself, a length or a count.
+    pub number: u64,
+    /// Its part of the text; less of it where the table has too little.
+    pub text: &'a [u8],
+    behind: Cursor<'a>,
+}
+
+impl<'a> Row<'a> {
+    /// What it holds.
+    ///
+    /// It is refused as the writer would refuse the row: with [`KindUnknown`](Reason::KindUnknown),
+    /// [`NumberOutside`](Reason::NumberOutside) or [`TextAmiss`](Reason::TextAmiss). Not so where the table was read. The
+    /// writer's limits of 1,048,576 are not looked at.
+    pub fn value(&self) -> Result<Value<'a>, Refusal> {
+        self.typed().map_err(|reason| Refusal::writing(reason, self.index as u64))
+    }
+
+    fn typed(&self) -> Result<Value<'a>, Reason> {
+        let number = self.number;
+        let kind = Kind::from_code(self.kind).ok_or(Reason::KindUnknown)?;
+        let numbered = |good: bool| if good { Ok(()) } else { Err(Reason::NumberOutside) };
+        let sixteen = || <[u8; 16]>::try_from(self.text).map_err(|_| Reason::TextAmiss);
+        let binary = || Some(self.text).filter(|text| text.len() as u64 == number).ok_or(Reason::TextAmiss);
+        let string = || str::from_utf8(binary()?).map_err(|_| Reason::TextAmiss);
+        Ok(match kind {
+            Kind::Described => numbered(number == 2).map(|()| Value::Described)?,
+            Kind::Null => numbered(number == 0).map(|()| Value::Null)?,
+            Kind::Boolean => numbered(number < 2).map(|()| Value::Boolean(number == 1))?,
+            Kind::Ubyte => Value::Ubyte(fit(number)?),
+            Kind::Byte => Value::Byte(fit::<u8>(number)? as i8),
+            Kind::Ushort => Value::Ushort(fit(number)?),
+            Kind::Short => Value::Short(fit::<u16>(number)? as i16),
+            Kind::Uint => Value::Uint(fit(number)?),
+            Kind::Int => Value::Int(fit::<u32>(number)? as i32),
+            Kind::Float => Value::Float(f32::from_bits(fit(number)?)),
+            Kind::Char => Value::Char(char::from_u32(fit(number)?).ok_or(Reason::NumberOutside)?),
+            Kind::Decimal32 => Value::Decimal32(fit(number)?),
+            Kind::Ulong => Value::Ulong(number),
+            Kind::Long => Value::Long(number as i64),
+            Kind::Double => Value::Double(f64::from_bits(number)),
+            Kind::Timestamp => Value::Timestamp(number as i64),
+            Kind::Decimal64 => Value::Decimal64(number),
+            Kind::Decimal128 => numbered(number == 0).and_then(|()| sixteen()).map(Value::Decimal128)?,
+            Kind::Uuid => numbered(number == 0).and_then(|()| sixteen()).map(Value::Uuid)?,
+            Kind::Binary => Value::Binary(binary()?),
+            Kind::String => Value::String(string()?),
+            Kind::Symbol => Value::Symbol(Some(string()?).filter(|text| text.is_ascii()).ok_or(Reason::TextAmiss)?),
+            Kind::List => Value::List(self.count()),
+            Kind::Map => numbered(number % 2 == 0).map(|()| Value::Map(self.count()))?,
+            Kind::Array => Value::Array(self.count()),
+        })
+    }
+
+    /// How many children it says it has: its number if its kind has children, else 0.
+    #[must_use]
+    pub fn count(&self) -> usize {
+        if Kind::from_code(self.kind).is_some_and(Kind::has_children) {
+            self.number as usize
+        } else {
+            0
+        }
+    }
+
+    /// Its children, without what is below them.
+    ///
+    /// ```
+    /// use afsungar::Table;
+    ///
+    /// let table = Table::build(|t| {
+    ///     t.list(|t| {
+    ///         t.list_of([1u32, 2, 3]).list_of([4u32]);
+    ///     });
+    /// });
+    /// let counts = table.root().into_iter().flat_map(|list| list.children()).map(|child| child.count());
+    /// assert_eq!(counts.collect::<Vec<_>>(), [3, 1]);
+    /// ```
+    pub fn children(&self) -> Children<'a> {
+        Children { cursor: self.behind, below: 0, left: self.count() }
+    }
+}
+
+/// A number at the width of its kind.
+fn fit<T: TryFrom<u64>>(number: u64) -> Result<T, Reason> {
+    T::try_from(number).map_err(|_| Reason::NumberOutside)
+}
+
+impl fmt::Display for Row<'_> {
+    fn fmt(&self, f: &mut fmt::Formatter<'_>) -> fmt::Result {
+        write!(f, "{} {:02x} {}", self.index, self.kind, self.number)
+    }
+}
+
+impl fmt::Debug for Row<'_> {
+    fn fmt(&self, f: &mut fmt::Formatter<'_>) -> fmt::Result {
+        match self.value() {
+            Ok(value) => value.fmt(f),
+            Err(_) => write!(f, "bad row {:02x}:{} {:?}", self.kind, self.number, self.text),
+        }
+    }
+}
+
+/// The rows from one on, and their text.
+#[derive(Clone, Copy, Debug)]
+struct Cursor<'a> {
+    index: usize,
+    words: &'a [u64],
+    text: &'a [u8],
+}
+
+impl<'a> Cursor<'a> {
+    fn step(&mut self) -> Option<Row<'a>> {
+        let [kind, number, words @ ..] = self.words else {
+            return None;
+        };
+        let length = match Kind::from_code(*kind) {
+            Some(Kind::Binary | Kind::String | Kind::Symbol) => *number as usize,
+            Some(Kind::Decimal128 | Kind::Uuid) => 16,
+            _ => 0,
+        };
+        let (text, left) = self.text.split_at(length.min(self.text.len()));
+        let index = self.index;
+        *self = Cursor { index: index + 1, words, text: left };
+        Some(Row { index, kind: *kind, number: *number, text, behind: *self })
+    }
+}
+
+/// An iterator over the rows of a table; see [`Table::rows`].
+#[derive(Clone, Debug)]
+#[must_use]
+pub struct Rows<'a> {
+    cursor: Cursor<'a>,
+}
+
+impl<'a> Iterator for Rows<'a> {
+    type Item = Row<'a>;
+
+    fn next(&mut self) -> Option<Row<'a>> {
+        self.cursor.step()
+    }
+
+    fn size_hint(&self) -> (usize, Option<usize>) {
+        let left = self.cursor.words.len() / 2;
+        (left, Some(left))
+    }
+}
+
+impl ExactSizeIterator for Rows<'_> {}
+impl FusedIterator for Rows<'_> {}
+
+/// An iterator over the children of a row; see [`Row::children`].
+///
+/// It ends early where the table has too few rows.
+#[derive(Clone, Debug)]
+#[must_use]
+pub struct Children<'a> {
+    cursor: Cursor<'a>,
+    /// Children of the last child, to be passed over before the next.
+    below: usize,
+    left: usize,
+}
+
+impl<'a> Iterator for Children<'a> {
+    type Item = Row<'a>;
+
+    fn next(&mut self) -> Option<Row<'a>> {
+        self.left = self.left.checked_sub(1)?;
+        while self.below > 0 {
+            let row = self.cursor.step()?;
+            self.below = (self.below - 1).saturating_add(row.count());
+        }
+        let child = self.cursor.step()?;
+        self.below = child.count();
+        Some(child)
+    }
+
+    fn size_hint(&self) -> (usize, Option<usize>) {
+        (0, Some(self.left.min(self.cursor.words.len() / 2)))
+    }
+}
+
+impl FusedIterator for Children<'_> {}

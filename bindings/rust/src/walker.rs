@@ -1,0 +1,127 @@
+use std::iter::FusedIterator;
+
+use crate::{call, Refusal};
+
+/// Goes through values that stand end to end.
+///
+/// After a refusal it stays where it is, and a further step says the same; so it is no [`Iterator`]. [`values`] is one.
+///
+/// ```
+/// use afsungar::{Reason, Walker};
+///
+/// let bytes = [0x40, 0x52, 0xff, 0x46]; // null, uint 255, and a code that there is not
+/// let mut walker = Walker::new(&bytes);
+/// assert_eq!(walker.step(), Some(Ok(&bytes[..1])));
+/// assert_eq!(walker.step(), Some(Ok(&bytes[1..3])));
+/// for _ in 0..2 {
+///     let refusal = walker.step().unwrap().unwrap_err();
+///     assert_eq!((refusal.reason(), refusal.offset()), (Reason::CodeUnknown, Some(0)));
+/// }
+/// assert_eq!((walker.offset(), walker.rest()), (3, &bytes[3..]));
+/// ```
+#[derive(Clone, Debug)]
+pub struct Walker<'a> {
+    bytes: &'a [u8],
+    at: u64,
+}
+
+impl<'a> Walker<'a> {
+    /// A walker at the start of the bytes.
+    #[must_use]
+    pub const fn new(bytes: &'a [u8]) -> Self {
+        Walker { bytes, at: 0 }
+    }
+
+    /// A walker that begins at an offset. One beyond the end is taken for the end.
+    #[must_use]
+    pub fn at(bytes: &'a [u8], at: usize) -> Self {
+        Walker { bytes, at: at.min(bytes.len()) as u64 }
+    }
+
+    /// The bytes of the next value, or nothing at the end.
+    ///
+    /// The place of a refusal is counted from [`offset`](Walker::offset), where the walker stays.
+    pub fn step(&mut self) -> Option<Result<&'a [u8], Refusal>> {
+        let rest = self.rest();
+        match call::step(self.bytes, &mut self.at) {
+            Ok(0) => None,
+            // The value stands at the start of the rest; that is the promise of the step.
+            Ok(length) => Some(Ok(&rest[..length])),
+            Err(refusal) => Some(Err(refusal)),
+        }
+    }
+
+    /// How many bytes it has passed.
+    #[must_use]
+    pub const fn offset(&self) -> usize {
+        self.at as usize
+    }
+
+    /// The bytes that it has not passed.
+    #[must_use]
+    pub fn rest(&self) -> &'a [u8] {
+        self.bytes.get(self.offset()..).unwrap_or_default()
+    }
+}
+
+/// The values that stand end to end in `bytes`, each as its own bytes. After a refusal there are no more.
+///
+/// ```
+/// # fn main() -> Result<(), afsungar::Refusal> {
+/// let bytes = [0x40, 0x52, 0xff, 0xa1, 0x02, 0x4d, 0x34]; // null, uint 255, string M4
+/// let mut lengths = Vec::new();
+/// for value in afsungar::values(&bytes) {
+///     lengths.push(value?.len());
+/// }
+/// assert_eq!(lengths, [1, 2, 4]);
+/// # Ok(())
+/// # }
+/// ```
+pub const fn values(bytes: &[u8]) -> Values<'_> {
+    Values { walker: Walker::new(bytes), over: false }
+}
+
+/// An iterator over values that stand end to end; see [`values`].
+#[derive(Clone, Debug)]
+#[must_use]
+pub struct Values<'a> {
+    walker: Walker<'a>,
+    over: bool,
+}
+
+impl<'a> Values<'a> {
+    /// How many bytes it has passed. The place of a refusal is counted from here.
+    #[must_use]
+    pub const fn offset(&self) -> usize {
+        self.walker.offset()
+    }
+
+    /// The bytes that it has not passed: after a refusal those which are no value.
+    #[must_use]
+    pub fn rest(&self) -> &'a [u8] {
+        self.walker.rest()
+    }
+}
+
+impl<'a> Iterator for Values<'a> {
+    type Item = Result<&'a [u8], Refusal>;
+
+    fn next(&mut self) -> Option<Self::Item> {
+        if self.over {
+            return None;
+        }
+        let found = self.walker.step();
+        self.over = !matches!(found, Some(Ok(_)));
+        found
+    }
+
+    fn size_hint(&self) -> (usize, Option<usize>) {
+        if self.over {
+            return (0, Some(0));
+        }
+        // A value has at least one byte.
+        (usize::from(!self.rest().is_empty()), Some(self.rest().len()))
+    }
+}
+
+impl FusedIterator for Values<'_> {}

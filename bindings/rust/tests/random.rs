@@ -1,0 +1,273 @@
+//! Tables and bytes by chance, always the same ones.
+use afsungar::{measure, read, size, values, write, Builder, Extent, Kind, Reason, Table, Walker, MAX_LEVEL};
+
+/// xorshift64*, from a fixed seed.
+struct Chance(u64);
+
+impl Chance {
+    fn word(&mut self) -> u64 {
+        self.0 ^= self.0 >> 12;
+        self.0 ^= self.0 << 25;
+        self.0 ^= self.0 >> 27;
+        self.0.wrapping_mul(0x2545_f491_4f6c_dd1d)
+    }
+
+    fn below(&mut self, end: usize) -> usize {
+        ((u128::from(self.word()) * end as u128) >> 64) as usize
+    }
+
+    /// Any width, so that small numbers and numbers near a limit come often.
+    fn number(&mut self) -> u64 {
+        let shift = self.below(64);
+        let number = self.word() >> shift;
+        if self.below(4) == 0 {
+            number.wrapping_neg()
+        } else {
+            number
+        }
+    }
+
+    fn char(&mut self) -> char {
+        loop {
+            if let Some(c) = char::from_u32(self.number() as u32 & 0x1f_ffff) {
+                return c;
+            }
+        }
+    }
+
+    /// Mostly short, now and then about 255 bytes long.
+    fn length(&mut self) -> usize {
+        match self.below(12) {
+            0 => 240 + self.below(30),
+            1 => self.below(600),
+            _ => self.below(12),
+        }
+    }
+
+    fn bytes(&mut self) -> Vec<u8> {
+        (0..self.length()).map(|_| self.word() as u8).collect()
+    }
+
+    fn string(&mut self) -> String {
+        let length = self.length();
+        let mut text = String::new();
+        while text.len() < length {
+            text.push(self.char());
+        }
+        text
+    }
+
+    fn symbol(&mut self) -> String {
+        (0..self.length()).map(|_| char::from(self.word() as u8 & 0x7f)).collect()
+    }
+
+    fn sixteen(&mut self) -> [u8; 16] {
+        (u128::from(self.word()) << 64 | u128::from(self.word())).to_be_bytes()
+    }
+
+    /// Puts in a value of this kind at this level.
+    fn put(&mut self, t: &mut Builder, kind: Kind, level: usize) {
+        let n = self.number();
+        match kind {
+            Kind::Null => t.null(),
+            Kind::Boolean => t.boolean(n % 2 == 1),
+            Kind::Ubyte => t.ubyte(n as u8),
+            Kind::Ushort => t.ushort(n as u16),
+            Kind::Uint => t.uint(n as u32),
+            Kind::Ulong => t.ulong(n),
+            Kind::Byte => t.byte(n as i8),
+            Kind::Short => t.short(n as i16),
+            Kind::Int => t.int(n as i32),
+            Kind::Long => t.long(n as i64),
+            Kind::Float => t.float(f32::from_bits(n as u32)),
+            Kind::Double => t.double(f64::from_bits(n)),
+            Kind::Decimal32 => t.decimal32(n as u32),
+            Kind::Decimal64 => t.decimal64(n),
+            Kind::Decimal128 => t.decimal128(self.sixteen()),
+            Kind::Char => t.char(self.char()),
+            Kind::Timestamp => t.timestamp(n as i64),
+            Kind::Uuid => t.uuid(self.sixteen()),
+            Kind::Binary => t.binary(self.bytes()),
+            Kind::String => t.string(self.string()),
+            Kind::Symbol => t.symbol(self.symbol()),
+            Kind::List => t.list(|t| (0..self.children(level)).for_each(|_| self.any(t, level + 1))),
+            Kind::Map => t.map(|t| (0..2 * self.children(level)).for_each(|_| self.any(t, level + 1))),
+            Kind::Array => t.array(|t| {
+                let elements: Vec<Kind> = Kind::ALL.into_iter().filter(|kind| kind.is_element()).collect();
+                let kind = elements[self.below(elements.len())];
+                (0..self.children(level)).for_each(|_| self.put(t, kind, level + 1));
+            }),
+            Kind::Described => t.described(|t| (0..2).for_each(|_| self.any(t, level + 1))),
+        };
+    }
+
+    /// Fewer the deeper it is, so that tables end.
+    fn children(&mut self, level: usize) -> usize {
+        match level {
+            MAX_LEVEL => 0,
+            1..=3 => self.below(6),
+            _ => self.below(3),
+        }
+    }
+
+    fn any(&mut self, t: &mut Builder, level: usize) {
+        let parents = [Kind::List, Kind::Map, Kind::Array, Kind::Described];
+        loop {
+            let kind = if self.below(4) == 0 { parents[self.below(4)] } else { Kind::ALL[self.below(25)] };
+            if kind != Kind::Described || level < MAX_LEVEL {
+                return self.put(t, kind, level);
+            }
+        }
+    }
+
+    /// Now and then deep down.
+    fn table(&mut self) -> Table {
+        let depth = if self.below(8) == 0 { self.below(MAX_LEVEL) } else { 0 };
+        Table::build(|t| self.down(t, depth, 1))
+    }
+
+    fn down(&mut self, t: &mut Builder, depth: usize, level: usize) {
+        if depth == 0 {
+            return self.any(t, level);
+        }
+        match self.below(3) {
+            0 => t.list(|t| self.down(t, depth - 1, level + 1)),
+            1 => t.map(|t| self.down(t.null(), depth - 1, level + 1)),
+            _ => t.described(|t| self.down(t.ulong(36), depth - 1, level + 1)),
+        };
+    }
+}
+
+#[test]
+fn tables_there_and_back() {
+    let mut chance = Chance(0x00af_5a17_9a6e_d001);
+    let (mut rows, mut longest, mut kinds) = (0, 0, [0u32; 256]);
+    for _ in 0..30_000 {
+        let table = chance.table();
+        let bytes = table.to_bytes().unwrap();
+        assert_eq!(table.size(), Ok(bytes.len()));
+        assert_eq!(measure(&bytes), Ok(Extent { length: bytes.len(), rows: table.len(), text: table.text().len() }));
+        let again = Table::from_bytes(&bytes).unwrap();
+        assert_eq!(again, table);
+        let values = again.values().unwrap();
+        values.iter().for_each(|value| kinds[value.kind() as usize] += 1);
+        assert_eq!(values.into_iter().collect::<Table>(), table);
+
+        // One byte less of output, of rows and of text; and a front part of the bytes.
+        let mut out = vec![0xaa; bytes.len() - 1];
+        assert_eq!(table.write_to(&mut out).map_err(|refusal| refusal.reason()), Err(Reason::OutputShort));
+        assert!(out.iter().all(|&byte| byte == 0xaa));
+        let (mut words, mut text) = (table.words().to_vec(), table.text().to_vec());
+        words.pop();
+        assert_eq!(read(&bytes, &mut words, &mut text).map_err(|refusal| refusal.number), Err(13));
+        words.push(0);
+        if text.pop().is_some() {
+            assert_eq!(read(&bytes, &mut words, &mut text).map_err(|refusal| refusal.number), Err(14));
+        }
+        let front = chance.below(bytes.len());
+        assert_eq!(measure(&bytes[..front]).map_err(|refusal| refusal.reason()), Err(Reason::InputShort));
+        rows += table.len();
+        longest = longest.max(bytes.len());
+    }
+    assert!(Kind::ALL.iter().all(|&kind| kinds[kind as usize] > 1000), "{kinds:?}");
+    assert!(rows > 100_000 && longest > 2_000, "{rows} rows, the longest value has {longest} bytes");
+}
+
+#[test]
+fn values_end_to_end() {
+    let mut chance = Chance(0x00af_5a17_9a6e_d002);
+    for _ in 0..500 {
+        let tables: Vec<Table> = (0..chance.below(8)).map(|_| chance.table()).collect();
+        let bytes: Vec<u8> = tables.iter().flat_map(|table| table.to_bytes().unwrap()).collect();
+        let found: Vec<Table> = values(&bytes).map(|value| Table::from_bytes(value.unwrap()).unwrap()).collect();
+        assert_eq!(found, tables);
+    }
+}
+
+/// Bytes that were damaged, or never were a value: whatever is read can be looked at and, read again, is the same.
+#[test]
+fn bytes_by_chance() {
+    let mut chance = Chance(0x00af_5a17_9a6e_d003);
+    let (mut accepted, mut refused) = (0, [0u32; 15]);
+    for round in 0..60_000 {
+        let mut bytes = if round % 3 == 0 { chance.bytes() } else { chance.table().to_bytes().unwrap() };
+        for _ in 0..chance.below(4) {
+            if !bytes.is_empty() {
+                let at = chance.below(bytes.len());
+                bytes[at] = chance.word() as u8;
+            }
+        }
+        let mut walker = Walker::new(&bytes);
+        match (measure(&bytes), walker.step()) {
+            (Ok(extent), Some(Ok(value))) => {
+                accepted += 1;
+                assert_eq!(value, &bytes[..extent.length]);
+                let table = Table::from_bytes(&bytes).unwrap();
+                assert_eq!((table.len(), table.text().len()), (extent.rows, extent.text));
+                assert_eq!(table.values().unwrap().into_iter().collect::<Table>(), table);
+                let written = table.to_bytes().unwrap();
+                assert_eq!(Table::from_bytes(&written), Ok(table));
+            }
+            (Err(refusal), Some(Err(step))) => {
+                refused[usize::from(refusal.number)] += 1;
+                assert_eq!(refusal, step);
+                assert!(refusal.offset().is_some_and(|offset| offset <= bytes.len() as u64));
+            }
+            (Err(refusal), None) => assert!(bytes.is_empty() && refusal.number == 9),
+            other => panic!("{other:?} of {bytes:x?}"),
+        }
+    }
+    assert!(accepted > 1000, "{accepted}");
+    assert!([4, 9, 10, 11, 12].iter().all(|&number| refused[number] > 10), "{refused:?}");
+}
+
+/// Words and text by chance: no panic, writing as sizing says, and looking into the table is always possible.
+#[test]
+fn tables_by_chance() {
+    let mut chance = Chance(0x00af_5a17_9a6e_d004);
+    let (mut accepted, mut refused) = (0, [0u32; 15]);
+    for round in 0..60_000 {
+        let (mut words, mut text) = if round % 3 == 0 {
+            let words = (0..chance.below(9)).flat_map(|_| {
+                let kind = Kind::ALL[chance.below(25)];
+                [kind.code(), chance.below(4) as u64]
+            });
+            (words.collect(), Vec::new())
+        } else {
+            chance.table().into_parts()
+        };
+        for _ in 0..chance.below(3) {
+            match chance.below(5) {
+                0 => drop(words.pop()),
+                1 => drop(text.pop()),
+                2 => text.push(chance.word() as u8),
+                _ if !words.is_empty() => {
+                    let at = chance.below(words.len());
+                    words[at] = chance.number();
+                }
+                _ => {}
+            }
+        }
+        let due = size(&words, &text);
+        let mut out = vec![0xaa; due.unwrap_or(100) + 3];
+        assert_eq!(write(&words, &text, &mut out), due);
+        let table = Table::from_parts(words, text);
+        let shown = format!("{table} {table:?}");
+        assert!(!shown.is_empty());
+        match due {
+            Ok(length) => {
+                accepted += 1;
+                assert!(table.values().is_ok());
+                assert_eq!(out[length..], [0xaa; 3]);
+                assert_eq!(Table::from_bytes(&out), Ok(table));
+            }
+            Err(refusal) => {
+                refused[usize::from(refusal.number)] += 1;
+                assert!(out.iter().all(|&byte| byte == 0xaa));
+                assert!(refusal.row().is_some_and(|row| row <= table.len() as u64));
+            }
+        }
+    }
+    assert!(accepted > 1000, "{accepted}");
+    assert!([1, 2, 4, 5, 6].iter().all(|&number| refused[number] > 10), "{refused:?}");
+}

@@ -1,0 +1,196 @@
+//! Every refusal, 1 to 14, with its place; and that lent memory keeps what it held.
+use afsungar::{measure, read, size, write, Reason, Refusal, Table, Task};
+
+/// Sizing and writing refuse alike, and the output stays.
+fn writing(words: &[u64], text: &[u8], reason: Reason, row: u64) {
+    let due = Refusal::writing(reason, row);
+    assert_eq!(size(words, text), Err(due));
+    let mut out = [0xaa; 64];
+    assert_eq!(write(words, text, &mut out), Err(due));
+    assert_eq!(out, [0xaa; 64]);
+    assert_eq!((due.number, due.place, due.task()), (reason.number(), row, Task::Writing));
+}
+
+/// Measuring and reading refuse alike, and words and text stay.
+fn reading(bytes: &[u8], reason: Reason, offset: u64) {
+    let due = Refusal::reading(reason, offset);
+    assert_eq!(measure(bytes), Err(due));
+    let (mut words, mut text) = ([0xaaaa; 32], [0xaa; 32]);
+    assert_eq!(read(bytes, &mut words, &mut text), Err(due));
+    assert_eq!((words, text), ([0xaaaa; 32], [0xaa; 32]));
+    assert_eq!((due.number, due.place, due.task()), (reason.number(), offset, Task::Reading));
+}
+
+#[test]
+fn rows_amiss_1() {
+    writing(&[], &[], Reason::RowsAmiss, 0);
+    writing(&[0x40], &[], Reason::RowsAmiss, 0);
+    writing(&[0x40, 0, 0x40], &[], Reason::RowsAmiss, 0);
+    writing(&[0xd0, 2, 0x40, 0], &[], Reason::RowsAmiss, 2);
+    writing(&[0x40, 0, 0x40, 0], &[], Reason::RowsAmiss, 1);
+}
+
+#[test]
+fn kind_unknown_2() {
+    writing(&[0xd0, 2, 0xff, 0], &[], Reason::KindUnknown, 1);
+    writing(&[0x140, 0], &[], Reason::KindUnknown, 0);
+    writing(&[u64::MAX, 0], &[], Reason::KindUnknown, 0);
+}
+
+#[test]
+fn too_deep_3() {
+    let words: Vec<u64> = [0xd0, 1].repeat(33);
+    writing(&words, &[], Reason::TooDeep, 32);
+    reading(&[0; 32], Reason::TooDeep, 32);
+}
+
+#[test]
+fn element_unfit_4() {
+    writing(&[0xf0, 1, 0x40, 0], &[], Reason::ElementUnfit, 1);
+    writing(&[0xf0, 2, 0x70, 0, 0x71, 0], &[], Reason::ElementUnfit, 2);
+    reading(&[0xe0, 0x02, 0x01, 0x40], Reason::ElementUnfit, 0);
+    reading(&[0xc0, 0x06, 0x01, 0xe0, 0x03, 0x00, 0x40, 0x40], Reason::ElementUnfit, 3);
+}
+
+#[test]
+fn number_outside_5() {
+    for bad in [
+        [0x40, 1],
+        [0x56, 2],
+        [0x50, 256],
+        [0x51, 256],
+        [0x60, 65_536],
+        [0x70, 1 << 32],
+        [0x71, u64::MAX],
+        [0x72, 1 << 32],
+        [0x73, 0xd800],
+        [0x73, 0x11_0000],
+        [0x98, 16],
+        [0xd1, 1],
+        [0x00, 3],
+        [0xb0, 1_048_577],
+        [0xd0, 1_048_577],
+    ] {
+        writing(&bad, &[], Reason::NumberOutside, 0);
+        writing(&[0xd0, 1, bad[0], bad[1]], &[], Reason::NumberOutside, 1);
+    }
+}
+
+#[test]
+fn text_amiss_6() {
+    writing(&[0xb1, 3], b"ab", Reason::TextAmiss, 0);
+    writing(&[0xb1, 2], &[0xc3, 0xc3], Reason::TextAmiss, 0);
+    writing(&[0xb3, 2], "Ø".as_bytes(), Reason::TextAmiss, 0);
+    writing(&[0x98, 0], &[0; 15], Reason::TextAmiss, 0);
+    writing(&[0xb0, 1], b"ab", Reason::TextAmiss, 1);
+    // A sequence that is split over two rows is a fault of the first.
+    writing(&[0xd0, 2, 0xb1, 1, 0xb1, 1], "Ø".as_bytes(), Reason::TextAmiss, 1);
+}
+
+#[test]
+fn too_long_7() {
+    let half = vec![0; 600_000];
+    let table = Table::build(|t| {
+        t.list_of([&half, &half]);
+    });
+    assert_eq!(table.size(), Err(Refusal::writing(Reason::TooLong, 0)));
+    assert_eq!(table.to_bytes(), Err(Refusal::writing(Reason::TooLong, 0)));
+}
+
+#[test]
+fn output_short_8() {
+    let due = Refusal::writing(Reason::OutputShort, 0);
+    assert_eq!(write(&[0x40, 0], &[], &mut []), Err(due));
+    let mut out = [0xaa; 4];
+    assert_eq!(write(&[0x70, 256], &[], &mut out), Err(due));
+    assert_eq!(out, [0xaa; 4]);
+}
+
+#[test]
+fn input_short_9() {
+    reading(&[], Reason::InputShort, 0);
+    reading(&[0x70, 0, 0, 0], Reason::InputShort, 0);
+    reading(&[0xc0, 0x01, 0x01], Reason::InputShort, 3);
+    // The input goes on, the list does not.
+    reading(&[0xc0, 0x02, 0x01, 0x50, 0x07], Reason::InputShort, 3);
+    // A count of four thousand million over a body of two bytes.
+    reading(&[0xd0, 0, 0, 0, 6, 0xee, 0x6b, 0x28, 0, 0x40, 0x40], Reason::InputShort, 11);
+}
+
+#[test]
+fn code_unknown_10() {
+    reading(&[0x46], Reason::CodeUnknown, 0);
+    reading(&[0x00, 0x40, 0xff], Reason::CodeUnknown, 2);
+}
+
+#[test]
+fn payload_bad_11() {
+    reading(&[0x56, 0x02], Reason::PayloadBad, 0);
+    reading(&[0x73, 0, 0, 0xd8, 0], Reason::PayloadBad, 0);
+    reading(&[0xc0, 0x04, 0x01, 0xa1, 0x01, 0xc3], Reason::PayloadBad, 3);
+    reading(&[0xa3, 0x01, 0x80], Reason::PayloadBad, 0);
+}
+
+#[test]
+fn size_amiss_12() {
+    reading(&[0xc0, 0x00], Reason::SizeAmiss, 0);
+    reading(&[0xd0, 0, 0, 0, 3], Reason::SizeAmiss, 0);
+    reading(&[0x00, 0x40, 0xc1, 0x02, 0x01, 0x40], Reason::SizeAmiss, 2);
+    reading(&[0xc0, 0x03, 0x01, 0x45, 0x45], Reason::SizeAmiss, 0);
+}
+
+#[test]
+fn rows_short_13_and_text_short_14() {
+    let bytes = [0xc0, 0x05, 0x01, 0xa1, 0x02, 0x4d, 0x34]; // a list of string M4
+    let mut text = [0xaa; 2];
+    for room in 0..4 {
+        // A lone last word is room for no row.
+        let mut words = vec![0xaaaa; room];
+        assert_eq!(read(&bytes, &mut words, &mut text), Err(Refusal::reading(Reason::RowsShort, 0)));
+        assert_eq!(read(&bytes, &mut words, &mut []), Err(Refusal::reading(Reason::RowsShort, 0)));
+        assert!(words.iter().all(|&word| word == 0xaaaa));
+    }
+    let mut words = [0xaaaa; 5];
+    assert_eq!(read(&bytes, &mut words, &mut text[..1]), Err(Refusal::reading(Reason::TextShort, 0)));
+    assert_eq!((words, text), ([0xaaaa; 5], [0xaa; 2]));
+    assert_eq!(read(&bytes, &mut words, &mut text).map(|extent| extent.rows), Ok(2));
+    assert_eq!((words, &text), ([0xd0, 1, 0xb1, 2, 0xaaaa], b"M4"));
+}
+
+#[test]
+fn numbers_and_words() {
+    let mut seen = Vec::new();
+    for (at, reason) in Reason::ALL.into_iter().enumerate() {
+        assert_eq!(usize::from(reason.number()), at + 1);
+        assert_eq!(Reason::from_number(reason.number()), Some(reason));
+        assert_eq!(u8::from(reason), reason.number());
+        for refusal in [Refusal::writing(reason, 7), Refusal::reading(reason, 7)] {
+            let text = refusal.to_string();
+            assert!(text.contains(&format!("({})", reason.number())), "{text}");
+            let placed = !matches!(reason.number(), 7 | 8 | 13 | 14);
+            let writes = refusal.task() == Task::Writing;
+            assert_eq!(text.ends_with(" at row 7"), placed && writes, "{text}");
+            assert_eq!(text.ends_with(" at offset 7"), placed && !writes, "{text}");
+            assert_eq!(refusal.row(), (placed && writes).then_some(7));
+            assert_eq!(refusal.offset(), (placed && !writes).then_some(7));
+            assert_eq!(refusal.reason(), reason);
+            seen.push(text);
+        }
+    }
+    seen.sort();
+    seen.dedup();
+    assert_eq!(seen.len(), 14 + 10, "ten reasons have a place, and say a row or an offset");
+    assert_eq!(Reason::from_number(0), None);
+    assert_eq!(Reason::from_number(15), None);
+}
+
+#[test]
+fn as_errors() {
+    let refusal = measure(&[0x46]).unwrap_err();
+    let boxed: Box<dyn std::error::Error + Send + Sync> = refusal.into();
+    assert_eq!(boxed.to_string(), "the format code is not one of the 40 (10) at offset 0");
+    let io = std::io::Error::from(refusal);
+    assert_eq!(io.kind(), std::io::ErrorKind::InvalidData);
+    let io = std::io::Error::from(size(&[], &[]).unwrap_err());
+    assert_eq!(io.kind(), std::io::ErrorKind::InvalidInput);
+}

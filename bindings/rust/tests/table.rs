@@ -1,0 +1,401 @@
+//! Tables: put together, looked into, printed; and the walker.
+use afsungar::{read, values, Builder, Extent, Kind, Mismatch, Reason, Refusal, Table, Value, Walker};
+
+fn all_kinds() -> Table {
+    Table::build(|t| {
+        t.list(|t| {
+            t.null().boolean(true).boolean(false);
+            t.ubyte(u8::MAX).ushort(u16::MAX).uint(u32::MAX).ulong(u64::MAX);
+            t.byte(-1).short(i16::MIN).int(-2).long(i64::MIN);
+            t.float(-1.5).double(f64::MIN_POSITIVE);
+            t.decimal32(0xf000_0001).decimal64(u64::MAX - 1).decimal128([9; 16]);
+            t.char('Ø').timestamp(-1).uuid(*b"0123456789abcdef");
+            t.binary([0xff, 0x00]).string("Ø1.2").symbol("ear-shell");
+            t.list(|_| {}).map(|_| {}).array(|_| {});
+            t.map(|t| {
+                t.symbol("left").list(|t| {
+                    t.null().null();
+                });
+                t.null().described(|t| {
+                    t.symbol("d").array_of(["Ø1.2", "", "M4"]);
+                });
+            });
+        });
+    })
+}
+
+fn all_values() -> Vec<Value<'static>> {
+    use Value::*;
+    vec![
+        List(26),
+        Null,
+        Boolean(true),
+        Boolean(false),
+        Ubyte(255),
+        Ushort(65_535),
+        Uint(u32::MAX),
+        Ulong(u64::MAX),
+        Byte(-1),
+        Short(i16::MIN),
+        Int(-2),
+        Long(i64::MIN),
+        Float(-1.5),
+        Double(f64::MIN_POSITIVE),
+        Decimal32(0xf000_0001),
+        Decimal64(u64::MAX - 1),
+        Decimal128([9; 16]),
+        Char('Ø'),
+        Timestamp(-1),
+        Uuid(*b"0123456789abcdef"),
+        Binary(&[0xff, 0x00]),
+        String("Ø1.2"),
+        Symbol("ear-shell"),
+        List(0),
+        Map(0),
+        Array(0),
+        Map(4),
+        Symbol("left"),
+        List(2),
+        Null,
+        Null,
+        Null,
+        Described,
+        Symbol("d"),
+        Array(3),
+        String("Ø1.2"),
+        String(""),
+        String("M4"),
+    ]
+}
+
+#[test]
+fn all_kinds_there_and_back() {
+    let table = all_kinds();
+    assert_eq!(table.values(), Ok(all_values()));
+    let bytes = table.to_bytes().unwrap();
+    assert_eq!(table.size(), Ok(bytes.len()));
+    let again = Table::try_from(&bytes[..]).unwrap();
+    assert_eq!(again, table);
+    assert_eq!(again.values(), Ok(all_values()));
+    assert_eq!(Vec::try_from(&again), Ok(bytes));
+
+    let mut kinds: Vec<Kind> = all_values().iter().map(Value::kind).collect();
+    kinds.sort();
+    kinds.dedup();
+    assert_eq!(kinds, Kind::ALL);
+}
+
+#[test]
+fn rows_from_values() {
+    assert_eq!(all_values().into_iter().collect::<Table>(), all_kinds());
+    // Pushed within a closure they count as one value, with what is below them.
+    let outer = Table::build(|t| {
+        t.list(|t| {
+            t.extend(all_values());
+            t.table(&all_kinds()).uint(1);
+        });
+    });
+    assert_eq!(outer.root().map(|root| root.count()), Some(3));
+    let root = outer.root().unwrap();
+    let counts: Vec<usize> = root.children().map(|child| child.count()).collect();
+    assert_eq!(counts, [26, 26, 0]);
+    assert_eq!(Table::from_bytes(&outer.to_bytes().unwrap()), Ok(outer));
+}
+
+#[test]
+fn children() {
+    fn count(row: afsungar::Row<'_>) -> usize {
+        1 + row.children().map(count).sum::<usize>()
+    }
+    let table = all_kinds();
+    assert_eq!(table.root().map(count), Some(table.len()));
+    let root = table.root().unwrap();
+    assert_eq!(root.children().count(), 26);
+    let map = root.children().last().unwrap();
+    let within: Vec<_> = map.children().map(|row| row.value().unwrap()).collect();
+    assert_eq!(within, [Value::Symbol("left"), Value::List(2), Value::Null, Value::Described]);
+    assert_eq!(map.children().last().unwrap().children().last().unwrap().count(), 3);
+}
+
+#[test]
+fn negative_numbers_have_their_own_width() {
+    let number = |value: Value<'_>| Table::from(value).words()[1];
+    assert_eq!(number(Value::Byte(-1)), 0xff);
+    assert_eq!(number(Value::Short(-1)), 0xffff);
+    assert_eq!(number(Value::Int(-1)), 0xffff_ffff);
+    assert_eq!(number(Value::Long(-1)), u64::MAX);
+    assert_eq!(number(Value::Timestamp(-1)), u64::MAX);
+    for n in [i64::MIN, -129, -128, -1, 0, 127, 128, i64::MAX] {
+        for value in
+            [Value::Long(n), Value::Timestamp(n), Value::Int(n as i32), Value::Short(n as i16), Value::Byte(n as i8)]
+        {
+            let bytes = Table::from(value).to_bytes().unwrap();
+            assert_eq!(Table::from_bytes(&bytes).unwrap().values(), Ok(vec![value]));
+        }
+    }
+}
+
+#[test]
+fn floats_keep_their_bits() {
+    for bits in [0, 0x8000_0000, 0x7f80_0000, 0xff80_0000, 0x7fc0_0001, 0x7fa0_0000, 1, 0x3fc0_0000] {
+        let bytes = Table::build(|t| {
+            t.float(f32::from_bits(bits));
+        })
+        .to_bytes()
+        .unwrap();
+        let [Value::Float(x)] = Table::from_bytes(&bytes).unwrap().values().unwrap()[..] else { panic!() };
+        assert_eq!((bytes[0], x.to_bits()), (0x72, bits));
+    }
+    for bits in [0, 1 << 63, 0x7ff0 << 48, 0xfff8 << 48, 0x7ff4 << 48, 1, 1.5f64.to_bits()] {
+        let bytes = Table::build(|t| {
+            t.double(f64::from_bits(bits));
+        })
+        .to_bytes()
+        .unwrap();
+        let [Value::Double(x)] = Table::from_bytes(&bytes).unwrap().values().unwrap()[..] else { panic!() };
+        assert_eq!((bytes[0], x.to_bits()), (0x82, bits));
+    }
+}
+
+#[test]
+fn conversions() {
+    let table = Table::build(|t| {
+        t.list(|t| {
+            t.push(true).push(1u8).push(2u16).push(3u32).push(4u64).push(-1i8).push(-2i16).push(-3i32).push(-4i64);
+            t.push(0.5f32).push(0.25f64).push('x').push("text").push(&String::from("owned")).push(b"bytes");
+            t.push(&[1u8, 2][..]).push(&vec![3u8]).push(()).push(None::<u32>).push(Some("some"));
+        });
+    });
+    let table = Table::from_bytes(&table.to_bytes().unwrap()).unwrap();
+    let values = table.values().unwrap();
+    let [_, a, b, c, d, e, f, g, h, i, j, k, l, m, n, o, p, q, Value::Null, Value::Null, r] = values[..] else {
+        panic!("{values:?}")
+    };
+    assert_eq!(bool::try_from(a), Ok(true));
+    assert_eq!((u8::try_from(b), u16::try_from(c)), (Ok(1), Ok(2)));
+    assert_eq!((u32::try_from(d), u64::try_from(e)), (Ok(3), Ok(4)));
+    assert_eq!((i8::try_from(f), i16::try_from(g)), (Ok(-1), Ok(-2)));
+    assert_eq!((i32::try_from(h), i64::try_from(i)), (Ok(-3), Ok(-4)));
+    assert_eq!((f32::try_from(j), f64::try_from(k), char::try_from(l)), (Ok(0.5), Ok(0.25), Ok('x')));
+    assert_eq!((<&str>::try_from(m), <&str>::try_from(n)), (Ok("text"), Ok("owned")));
+    assert_eq!(<&[u8]>::try_from(o), Ok(&b"bytes"[..]));
+    assert_eq!((p, q, r), (Value::Binary(&[1, 2]), Value::Binary(&[3]), Value::String("some")));
+    assert_eq!(<&str>::try_from(Value::Symbol("s")), Ok("s"));
+    assert_eq!(<[u8; 16]>::try_from(Value::Uuid([7; 16])), Ok([7; 16]));
+    assert_eq!(
+        <[u8; 16]>::try_from(Value::Binary(&[7; 16])),
+        Err(Mismatch { wanted: Kind::Uuid, found: Kind::Binary })
+    );
+    assert_eq!(<&[u8]>::try_from(Value::Null), Err(Mismatch { wanted: Kind::Binary, found: Kind::Null }));
+    assert_eq!(<&str>::try_from(Value::Null), Err(Mismatch { wanted: Kind::String, found: Kind::Null }));
+}
+
+#[test]
+fn the_writer_says_which_row() {
+    let refused = |build: fn(&mut Builder), reason, row| {
+        assert_eq!(Table::build(build).to_bytes(), Err(Refusal::writing(reason, row)));
+    };
+    refused(|_| {}, Reason::RowsAmiss, 0);
+    refused(
+        |t| {
+            t.null().null();
+        },
+        Reason::RowsAmiss,
+        1,
+    );
+    refused(
+        |t| {
+            t.list(|t| {
+                t.null().symbol("Ø");
+            });
+        },
+        Reason::TextAmiss,
+        2,
+    );
+    refused(
+        |t| {
+            t.map(|t| {
+                t.null();
+            });
+        },
+        Reason::NumberOutside,
+        0,
+    );
+    refused(
+        |t| {
+            t.described(|t| {
+                t.null();
+            });
+        },
+        Reason::NumberOutside,
+        0,
+    );
+    refused(
+        |t| {
+            t.array(|t| {
+                t.uint(1).int(1);
+            });
+        },
+        Reason::ElementUnfit,
+        2,
+    );
+    refused(
+        |t| {
+            t.push(Value::List(2)).null();
+        },
+        Reason::RowsAmiss,
+        2,
+    );
+    refused(
+        |t| {
+            t.row(0x41, 0, []);
+        },
+        Reason::KindUnknown,
+        0,
+    );
+    // A builder that is put in another's place is no fault of this crate's, and no panic.
+    refused(
+        |t| {
+            t.list(|t| *t = Builder::new());
+        },
+        Reason::RowsAmiss,
+        0,
+    );
+}
+
+#[test]
+fn bad_tables_can_be_looked_at() {
+    let words = vec![0xd0, u64::MAX, 0xff, 0, 0x56, 2, 0xd0, u64::MAX, 0xb1, 9, 0x98, 0, 0x40];
+    let table = Table::from_parts(words.clone(), vec![0xc3, b'a']);
+    assert_eq!((table.words(), table.text(), table.len()), (&words[..], &[0xc3, b'a'][..], 6));
+    let rows: Vec<_> = table.rows().map(|row| row.value()).collect();
+    let bad = |reason, row| Err(Refusal::writing(reason, row));
+    assert_eq!(
+        rows,
+        [
+            Ok(Value::List(usize::MAX)),
+            bad(Reason::KindUnknown, 1),
+            bad(Reason::NumberOutside, 2),
+            Ok(Value::List(usize::MAX)),
+            bad(Reason::TextAmiss, 4),
+            bad(Reason::TextAmiss, 5),
+        ]
+    );
+    assert_eq!(table.values(), Err(Refusal::writing(Reason::KindUnknown, 1)));
+    assert_eq!(table.root().unwrap().children().count(), 3);
+    assert_eq!(table.to_string().lines().nth(1), Some("1 ff 0"));
+    assert!(format!("{table:?}").ends_with("lone word 64]"), "{table:?}");
+    assert!(format!("{:?}", Table::from_parts(vec![], vec![1])).contains("text left [1]"));
+    assert_eq!(table.clone().into_parts(), (words, vec![0xc3, b'a']));
+}
+
+#[test]
+fn printed() {
+    let table = Table::build(|t| {
+        t.map(|t| {
+            t.symbol("v").uint(2);
+        });
+    });
+    assert_eq!(table.to_string(), "0 d1 2\n1 b3 1\n2 70 2\n");
+    assert_eq!(format!("{table:?}"), "Table [Map(2), Symbol(\"v\"), Uint(2)]");
+    assert_eq!(table.rows().map(|row| row.to_string()).collect::<Vec<_>>(), ["0 d1 2", "1 b3 1", "2 70 2"]);
+    assert!(table.rows().all(|row| row.text == if row.index == 1 { &b"v"[..] } else { b"" }));
+    assert_eq!(
+        (table.rows().len(), Table::default().is_empty(), Table::default().to_string()),
+        (3, true, String::new())
+    );
+}
+
+#[test]
+fn tables_with_other_text_are_others() {
+    let table = |text: &str| {
+        Table::build(|t| {
+            t.string(text);
+        })
+    };
+    assert_ne!(table("a"), table("b"));
+    assert_eq!(table("a").words(), table("b").words());
+    assert_eq!(table("a"), table("a").clone());
+}
+
+#[test]
+fn a_table_has_the_memory_that_it_needs() {
+    for table in [all_kinds(), Table::from(Value::Null), Table::from(Value::String("M4"))] {
+        let bytes = table.to_bytes().unwrap();
+        assert_eq!(bytes.capacity(), bytes.len());
+        let (words, text) = afsungar::read_to_table(&bytes).unwrap().into_parts();
+        assert_eq!((words.capacity(), text.capacity()), (words.len(), text.len()));
+        assert_eq!(Table::from_parts(words, text), table);
+    }
+}
+
+#[test]
+fn read_again_into_the_same_table() {
+    let mut table = all_kinds();
+    let before = table.clone();
+    assert_eq!(table.read_from(&[0xc0, 0x01, 0x01]), Err(Refusal::reading(Reason::InputShort, 3)));
+    assert_eq!(table, before);
+    assert_eq!(table.read_from(&[0xa1, 0x02, 0x4d, 0x34, 0xff]), Ok(Extent { length: 4, rows: 1, text: 2 }));
+    assert_eq!(table, Table::from(Value::String("M4")));
+}
+
+#[test]
+fn short_and_wide_forms_are_read_alike() {
+    let uint: [&[u8]; 3] = [&[0x43], &[0x52, 0x00], &[0x70, 0, 0, 0, 0]];
+    assert!(uint.iter().all(|bytes| Table::from_bytes(bytes) == Ok(Table::from(Value::Uint(0)))));
+    let list: [&[u8]; 3] = [&[0x45], &[0xc0, 0x01, 0x00], &[0xd0, 0, 0, 0, 4, 0, 0, 0, 0]];
+    assert!(list.iter().all(|bytes| Table::from_bytes(bytes) == Ok(Table::from(Value::List(0)))));
+    let element = [0xe0, 0x03, 0x01, 0x54, 0x80];
+    assert_eq!(Table::from_bytes(&element).unwrap().values(), Ok(vec![Value::Array(1), Value::Int(-128)]));
+    // A text of 255 bytes is read in the one-byte form, and written in the other.
+    let text: Vec<u8> = [0xa1, 255].into_iter().chain([b'x'; 255]).collect();
+    let table = Table::from_bytes(&text).unwrap();
+    assert_eq!(table.to_bytes().unwrap()[..5], [0xb1, 0, 0, 0, 255]);
+}
+
+#[test]
+fn nothing_beyond_is_touched() {
+    let mut out = [0xaa; 8];
+    assert_eq!(Table::from(Value::Uint(255)).write_to(&mut out), Ok(2));
+    assert_eq!(out, [0x52, 0xff, 0xaa, 0xaa, 0xaa, 0xaa, 0xaa, 0xaa]);
+    let (mut words, mut text) = ([7; 5], [7; 3]);
+    assert_eq!(read(&[0xa3, 0x01, b'v', 0x40], &mut words, &mut text), Ok(Extent { length: 3, rows: 1, text: 1 }));
+    assert_eq!((words, text), ([0xb3, 1, 7, 7, 7], [b'v', 7, 7]));
+}
+
+#[test]
+fn walker() {
+    let bytes = [0x40, 0xa1, 0x02, 0x4d, 0x34, 0x00, 0x40, 0x46];
+    let mut walker = Walker::new(&bytes);
+    assert_eq!(walker.step(), Some(Ok(&bytes[..1])));
+    assert_eq!((walker.offset(), walker.rest()), (1, &bytes[1..]));
+    assert_eq!(walker.step(), Some(Ok(&bytes[1..5])));
+    for _ in 0..3 {
+        // The place is counted from where the walker stays.
+        assert_eq!(walker.step(), Some(Err(Refusal::reading(Reason::CodeUnknown, 2))));
+        assert_eq!((walker.offset(), walker.rest()), (5, &bytes[5..]));
+    }
+    let mut walker = Walker::at(&bytes[..5], 1);
+    assert_eq!(walker.step(), Some(Ok(&bytes[1..5])));
+    for _ in 0..3 {
+        assert_eq!(walker.step(), None);
+        assert_eq!((walker.offset(), walker.rest()), (5, &[][..]));
+    }
+    assert_eq!(Walker::new(&[]).step(), None);
+    assert_eq!(Walker::at(&bytes, usize::MAX).step(), None);
+}
+
+#[test]
+fn values_end_to_end() {
+    let bytes = [0x40, 0xa1, 0x02, 0x4d, 0x34, 0x00, 0x40, 0x46];
+    let mut found = values(&bytes);
+    assert_eq!(found.size_hint(), (1, Some(8)));
+    assert_eq!(found.next(), Some(Ok(&bytes[..1])));
+    assert_eq!(found.next(), Some(Ok(&bytes[1..5])));
+    assert_eq!(found.next(), Some(Err(Refusal::reading(Reason::CodeUnknown, 2))));
+    assert_eq!((found.next(), found.next()), (None, None));
+    assert_eq!((found.offset(), found.rest(), found.size_hint()), (5, &bytes[5..], (0, Some(0))));
+    let all: Result<Vec<_>, _> = values(&bytes[..5]).collect();
+    assert_eq!(all, Ok(vec![&bytes[..1], &bytes[1..5]]));
+    assert_eq!(values(&[]).next(), None);
+}

@@ -1,0 +1,184 @@
+//! The worked examples of docs/FORMAT.md, 10.
+use afsungar::{measure, read_to_table, Builder, Extent, Reason, Refusal, Table};
+
+/// Two hex digits a byte; spaces do not count.
+fn hex(digits: &str) -> Vec<u8> {
+    let digits: Vec<u8> = digits.bytes().filter(|&b| b != b' ').collect();
+    digits.chunks(2).map(|two| u8::from_str_radix(std::str::from_utf8(two).unwrap(), 16).unwrap()).collect()
+}
+
+/// Written to these bytes, and read back to the same.
+fn written(words: &[u64], text: &str, bytes: &str, build: impl FnOnce(&mut Builder)) {
+    let (text, bytes) = (hex(text), hex(bytes));
+    let table = Table::build(build);
+    assert_eq!((table.words(), table.text()), (words, &text[..]));
+    assert_eq!(table.size(), Ok(bytes.len()));
+    assert_eq!(table.to_bytes().as_ref(), Ok(&bytes));
+    assert_eq!(read_to_table(&bytes), Ok(table));
+}
+
+#[test]
+fn uint_255_and_256() {
+    written(&[0x70, 255], "", "52 ff", |t| {
+        t.uint(255);
+    });
+    written(&[0x70, 256], "", "70 00 00 01 00", |t| {
+        t.uint(256);
+    });
+}
+
+#[test]
+fn int_minus_128_and_minus_129() {
+    written(&[0x71, 4_294_967_168], "", "54 80", |t| {
+        t.int(-128);
+    });
+    written(&[0x71, 4_294_967_167], "", "71 ff ff ff 7f", |t| {
+        t.int(-129);
+    });
+}
+
+#[test]
+fn list_of_one_null() {
+    written(&[0xd0, 1, 0x40, 0], "", "c0 02 01 40", |t| {
+        t.list(|t| {
+            t.null();
+        });
+    });
+}
+
+#[test]
+fn empty_map_and_empty_array() {
+    written(&[0xd1, 0], "", "c1 01 00", |t| {
+        t.map(|_| {});
+    });
+    written(&[0xf0, 0], "", "e0 01 00", |t| {
+        t.array(|_| {});
+    });
+}
+
+#[test]
+fn map_of_symbol_to_uint() {
+    written(&[0xd1, 2, 0xb3, 1, 0x70, 2], "76", "c1 06 02 a3 01 76 52 02", |t| {
+        t.map(|t| {
+            t.symbol("v").uint(2);
+        });
+    });
+}
+
+#[test]
+fn array_of_uint() {
+    written(&[0xf0, 2, 0x70, 0, 0x70, 1], "", "e0 0a 02 70 00 00 00 00 00 00 00 01", |t| {
+        t.array_of([0u32, 1]);
+    });
+}
+
+#[test]
+fn array_of_string() {
+    written(&[0xf0, 1, 0xb1, 5], "c3 98 31 2e 32", "e0 0b 01 b1 00 00 00 05 c3 98 31 2e 32", |t| {
+        t.array_of(["Ø1.2"]);
+    });
+}
+
+#[test]
+fn described_empty_list() {
+    written(&[0, 2, 0x80, 36, 0xd0, 0], "", "00 53 24 45", |t| {
+        t.described(|t| {
+            t.ulong(36).list(|_| {});
+        });
+    });
+}
+
+fn lists(t: &mut Builder, levels: usize) {
+    t.list(|t| {
+        if levels > 1 {
+            lists(t, levels - 1);
+        }
+    });
+}
+
+#[test]
+fn lists_in_lists() {
+    let table = Table::build(|t| lists(t, 32));
+    assert_eq!(table.len(), 32);
+    let bytes = table.to_bytes().unwrap();
+    assert_eq!(bytes.len(), 94);
+    assert_eq!(Table::from_bytes(&bytes), Ok(table));
+
+    let table = Table::build(|t| lists(t, 33));
+    assert_eq!(table.to_bytes(), Err(Refusal::writing(Reason::TooDeep, 32)));
+    // The same in bytes: the 33rd list is at offset 96.
+    let bytes: Vec<u8> = (0..32).rev().flat_map(|n| [0xc0, 3 * n + 2, 1]).chain([0x45]).collect();
+    assert_eq!(measure(&bytes), Err(Refusal::reading(Reason::TooDeep, 96)));
+}
+
+#[test]
+fn the_longest_string() {
+    let string = |length| {
+        Table::build(|t| {
+            t.string("x".repeat(length));
+        })
+    };
+    assert_eq!(string(1_048_571).size(), Ok(1_048_576));
+    let bytes = string(1_048_571).to_bytes().unwrap();
+    assert_eq!(Table::from_bytes(&bytes), Ok(string(1_048_571)));
+    assert_eq!(string(1_048_572).size(), Err(Refusal::writing(Reason::TooLong, 0)));
+}
+
+#[test]
+fn the_widths_of_an_array() {
+    // The element code and the elements: a body of 254 bytes, then one of 255.
+    let short = Table::build(|t| {
+        t.array_of([7u8; 253]);
+    })
+    .to_bytes()
+    .unwrap();
+    assert_eq!(short[..4], hex("e0 ff fd 50"));
+    assert_eq!(short.len(), 2 + 255);
+    let wide = Table::build(|t| {
+        t.array_of([7u8; 254]);
+    })
+    .to_bytes()
+    .unwrap();
+    assert_eq!(wide[..10], hex("f0 00 00 01 03 00 00 00 fe 50"));
+    assert_eq!(wide.len(), 5 + 259);
+}
+
+#[test]
+fn read() {
+    let refused = |bytes: &str, reason, offset| {
+        let bytes = hex(bytes);
+        assert_eq!(measure(&bytes), Err(Refusal::reading(reason, offset)), "{bytes:x?}");
+        assert_eq!(read_to_table(&bytes), Err(Refusal::reading(reason, offset)), "{bytes:x?}");
+    };
+    refused("", Reason::InputShort, 0);
+    refused("46", Reason::CodeUnknown, 0);
+    refused("56 02", Reason::PayloadBad, 0);
+    refused("c0 00", Reason::SizeAmiss, 0);
+    refused("c0 01 01", Reason::InputShort, 3);
+    refused("c0 03 01 45 45", Reason::SizeAmiss, 0);
+    refused("c0 05 01 40", Reason::InputShort, 0);
+    refused("c1 02 01 40", Reason::SizeAmiss, 0);
+    refused("e0 02 01 40", Reason::ElementUnfit, 0);
+
+    assert_eq!(measure(&hex("40 40")), Ok(Extent { length: 1, rows: 1, text: 0 }));
+    assert_eq!(
+        read_to_table(&hex("40 40")),
+        Ok(Table::build(|t| {
+            t.null();
+        }))
+    );
+    assert_eq!(measure(&hex("e0 02 00 70")), Ok(Extent { length: 4, rows: 1, text: 0 }));
+    assert_eq!(
+        read_to_table(&hex("e0 02 00 70")),
+        Ok(Table::build(|t| {
+            t.array(|_| {});
+        }))
+    );
+}
+
+#[test]
+fn listed() {
+    let bytes = hex("c1 06 02 a3 01 76 52 02");
+    let table = read_to_table(&bytes).unwrap();
+    assert_eq!(format!("{table}end {}\n", bytes.len()), "0 d1 2\n1 b3 1\n2 70 2\nend 8\n");
+}
