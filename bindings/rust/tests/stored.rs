@@ -144,7 +144,7 @@ fn listed(fields: &[&str]) {
 #[test]
 fn cases_of_the_writer() {
     for (file, cases) in
-        [("write.txt", 2105), ("write_big.txt", 24), ("own_write.txt", 1929), ("own_write_big.txt", 44)]
+        [("write.txt", 2105), ("write_big.txt", 24), ("own_write.txt", 1929), ("own_write_big.txt", 44), ("original.txt", 793)]
     {
         assert!(replay(file, written).map_or(true, |found| found >= cases), "{file}");
     }

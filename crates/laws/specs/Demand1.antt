@@ -154,10 +154,10 @@ stays-at l i (b ∷ r) n p e = by (measure l (b ∷ r)) e
 pub demand1 : Demand1
 unfolding size write measure read step
 demand1 = record {
-    sizeNumbers = size-range;
-    writeNumbers = write-range;
-    measureNumbers = measure-range;
-    readNumbers = read-range;
+  sizeNumbers = size-range;
+  writeNumbers = write-range;
+  measureNumbers = measure-range;
+  readNumbers = read-range;
   writing = λ l w x o. writing-of o (bytesOf l w x);
   output = λ l w x o. output-of o (bytesOf l w x);
   reading = λ l r w x. reading-of w x (length r) (front l r);

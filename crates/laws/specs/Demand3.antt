@@ -57,7 +57,8 @@ measured-of l r e (got (v, z)) i f =
 measures : (l : ℕ) (r : List ℕ) (e : Extent) → measure l r ≡ got e → Begins l r e
 measures l r e = measured-of l r e (front l r) refl
 
-formed-measured : (l : ℕ) (v : Tree) (a z : List ℕ) → Formed l v a → measure l (a ++ z) ≡ got (extent v (length a))
+-- a well-formed value is measured, whatever stands behind it
+pub formed-measured : (l : ℕ) (v : Tree) (a z : List ℕ) → Formed l v a → measure l (a ++ z) ≡ got (extent v (length a))
 formed-measured l v a z h = measured l (a ++ z) z v (front-complete l v a z h) ∙ ap (λ (n : ℕ). got (extent v n)) (front-long a z (a ++ z) refl)
 
 behind-all : (l : ℕ) (r z : List ℕ) (e : Extent) → measure l r ≡ got e → measure l (take (e .length) r ++ z) ≡ got e

@@ -1,7 +1,7 @@
 -- Which refusals each entry point can give, at every level limit (docs/FORMAT.md, 6), and that a value takes at least a byte.
 -- So 0 is the number of no refusal, and 0 the length of no value.
 use Prim.Native.Nat.{ℕ, zero, suc, _+_, _-_, _/_, _%_, _≤_}
-use mathlib.Core.Path.{_≡_, ap}
+use mathlib.Core.Path.{ap}
 use mathlib.Core.List.{List, [], _∷_, _++_}
 use mathlib.Core.Bool.{Bool, true, false, _||_}
 use native.Mathlib.Omega.{arith}
@@ -16,8 +16,8 @@ use Rattle.standard.specs.Read.{cut, plain, leaf, many, done, fields, held, ite
 use Rattle.standard.specs.Table.{most, Spot, any, allowed, ranged, letters, children, firstIn, next, letter, several, row, tree, spent, table}
 use Rattle.standard.specs.Encode.{encode}
 use Rattle.standard.specs.Outcomes.{Extent, extent, bytesOf, size, writtenTo, write, measure, readInto, read, Step, end, part, refused, stepped, stepIn, step}
-use Rattle.laws.specs.Answers.{Holds, yes′, no′, on}
-use Rattle.laws.specs.Bounds.{Small, small as at-most}
+use Rattle.laws.specs.Answers.{Holds, yes′, on}
+use Rattle.laws.specs.Bounds.{small as at-most}
 use Rattle.laws.specs.Unique.{front-sound}
 
 -- The refusals of sizing, 1 to 7; of writing, 1 to 8; of measuring, 3, 4 and 9 to 12; of reading, these and 13 and 14

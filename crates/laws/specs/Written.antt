@@ -152,7 +152,7 @@ number-form (signed s) l k w n c a h f g =
 
 -- Bodies
 
-form-some : (l : ℕ) (v : Tree) (a : List ℕ) → Form l v a → 0 < length a
+pub form-some : (l : ℕ) (v : Tree) (a : List ℕ) → Form l v a → 0 < length a
 form-some l v a (coded′ h) = omega arith
 
 many-count : (P : Tree → List ℕ → Type 0) → ((v : Tree) (a : List ℕ) → P v a → 0 < length a) → {n : ℕ} {vs : Trees} {a : List ℕ} → Many P n vs a → n ≤ length a

@@ -1,6 +1,6 @@
 -- What the walker's promise comes to: for each walker one outcome is possible; values that stand end to end are handed out each in turn; and where the walker
 -- hands out none it stays, and says the same again.
-use Prim.Native.Nat.{ℕ, suc, _+_, _<_}
+use Prim.Native.Nat.{ℕ, suc, _+_}
 use mathlib.Core.Path.{_≡_, refl, sym, ap, subst, _∙_}
 use mathlib.Core.List.{List, [], _∷_, _++_, append-assoc}
 use native.Mathlib.Omega.{arith}
@@ -19,12 +19,12 @@ use denote.Ref.{RefT, now, ptr}
 use denote.Slice.{sliceVal}
 use Rattle.standard.specs.Tree.{Tree}
 use Rattle.standard.specs.Answer.{Answer, got, refuse}
-use Rattle.standard.specs.Grammar.{Form, Formed, coded′}
+use Rattle.standard.specs.Grammar.{Formed}
 use Rattle.standard.specs.Outcomes as outcome
-use Rattle.standard.specs.Outcomes.{Extent, extent, measure, end, part, refused, stepped, stepIn, levelMost}
-use Rattle.laws.specs.Unique.{front-complete}
+use Rattle.standard.specs.Outcomes.{Extent, measure, end, part, refused, stepped, stepIn, levelMost}
+use Rattle.laws.specs.Written.{form-some}
+use Rattle.laws.specs.Demand3.{formed-measured}
 use Rattle.standard.specs.Facts.{same-refusal}
-use Rattle.standard.specs.declared.refusal.Refusal.{Refusal}
 use Rattle.reader.specs.InCode.{stepIs, steppedIs}
 use Rattle.reader.specs.Walking.{handed, stepOf, NextOf}
 use Rattle.reader.specs.declared.walker.Step.{Step}
@@ -120,18 +120,11 @@ abbrev pub inTurn : (place : ℕ) → List (List ℕ) → List (outcome.Step × 
 inTurn i [] = (end, []) ∷ []
 inTurn i (a ∷ ys) = (part i (length a), a) ∷ inTurn (i + length a) ys
 
-has-code : (l : ℕ) (v : Tree) (a : List ℕ) → Form l v a → 0 < length a
-has-code l v a (coded′ p) = omega arith
-
-measured : (l : ℕ) (v : Tree) (a z : List ℕ) → Formed l v a → measure l (a ++ z) ≡ got (extent v (length a))
-unfolding measure
-measured l v a z h = rw (front-complete l v a z h) (ap (λ (n : ℕ). got (extent v n)) (omega (arith, length-append a z)))
-
 step-value : (l : ℕ) (v : Tree) (b a z : List ℕ) → Formed l v a → outcome.step l (b ++ (a ++ z)) (length b) ≡ record { answer = part (length b) (length a); at = length b + length a }
 unfolding stepped
 step-value l v b a z h =
-    step-on l (length b) (b ++ (a ++ z)) (omega (arith, length-append b (a ++ z), length-append a z, has-code l v a (h .form))) ∙
-    ap (stepped (length b)) (ap (measure l) (drop-append-seam b (a ++ z)) ∙ measured l v a z h)
+    step-on l (length b) (b ++ (a ++ z)) (omega (arith, length-append b (a ++ z), length-append a z, form-some l v a (h .form))) ∙
+    ap (stepped (length b)) (ap (measure l) (drop-append-seam b (a ++ z)) ∙ formed-measured l v a z h)
 
 -- what a call hands out, and the walker after it, where the step is known
 module _ (w x : Walker) (r : Next) (g : NextOf w x r) (s : outcome.Stepping) (q : stepOf w ≡ s) where

@@ -163,6 +163,7 @@ fn main() {
     replay(Entry::Size, b"size.txt");
     replay(Entry::Write, b"write.txt");
     replay(Entry::Write, b"own_write.txt");
+    replay(Entry::Write, b"original.txt");
     replay(Entry::Read, b"read.txt");
     replay(Entry::Read, b"read_room.txt");
     replay(Entry::Read, b"own_read.txt");

@@ -1,0 +1,226 @@
+//! Reading whatever bytes: measuring, reading and the walker agree, appended bytes change nothing but a 9, at most one front is
+//! accepted, and nothing is touched that should not be.
+
+use crate::{
+    damage::Damage,
+    findings::Findings,
+    ours::{self, Told, PATTERN, PATTERN_WORD},
+    report,
+    table::{hex, Table},
+};
+
+pub struct Plan {
+    pub seed: u64,
+    pub runs: u64,
+}
+
+pub fn run(plan: &Plan) -> Findings {
+    report::heading("Reading whatever bytes");
+    let mut judge = Judge::new(plan.seed);
+    for _ in 0..plan.runs {
+        judge.next();
+    }
+    judge.print(plan);
+    judge.findings.print();
+    judge.findings
+}
+
+/// The room lent beyond what is needed.
+const BEYOND: usize = 3;
+/// Of a longer value not every front is tried.
+const FRONTS: usize = 64;
+
+struct Judge {
+    damage: Damage,
+    findings: Findings,
+    numbers: [u64; 16],
+    fronts: u64,
+    appended: u64,
+    changed: u64,
+    walked: u64,
+    words: Vec<u64>,
+    text: Vec<u8>,
+    longer: Vec<u8>,
+    /// The last runs of bytes, end to end.
+    stream: Vec<u8>,
+}
+
+impl Judge {
+    fn new(seed: u64) -> Self {
+        Judge {
+            damage: Damage::new(seed),
+            findings: Findings::default(),
+            numbers: [0; 16],
+            fronts: 0,
+            appended: 0,
+            changed: 0,
+            walked: 0,
+            words: Vec::new(),
+            text: Vec::new(),
+            longer: Vec::new(),
+            stream: Vec::new(),
+        }
+    }
+
+    fn next(&mut self) {
+        let bytes = self.damage.bytes().to_vec();
+        let told = ours::measure(&bytes);
+        self.numbers[(told.number as usize).min(15)] += 1;
+        let possible = matches!(told.number, 0 | 3 | 4 | 9..=12);
+        self.hold("measuring is fair", told.is_fair() && possible && told.length <= bytes.len() as u64, &bytes, &told);
+        self.read(&bytes, &told);
+        self.append(&bytes, &told);
+        self.step(&bytes, &told);
+        if told.is_success() {
+            self.fronts(&bytes[..told.length as usize]);
+            self.again(&bytes, &told);
+        }
+        self.walk(&bytes);
+    }
+
+    fn hold(&mut self, what: &str, holds: bool, bytes: &[u8], told: &Told) {
+        if !holds {
+            self.findings.note(what, bytes.len(), || format!("`{}`: {told}", hex(bytes)));
+        }
+    }
+
+    /// Lends so many words and bytes of text, all of them the pattern, and reads.
+    fn read_into(&mut self, bytes: &[u8], words: usize, text: usize) -> Told {
+        self.words.clear();
+        self.words.resize(words, PATTERN_WORD);
+        self.text.clear();
+        self.text.resize(text, PATTERN);
+        ours::read(bytes, &mut self.words, &mut self.text)
+    }
+
+    /// Whether what was lent is the pattern still, from these places on.
+    fn untouched(&self, words: usize, text: usize) -> bool {
+        self.words[words..].iter().all(|&word| word == PATTERN_WORD) && self.text[text..].iter().all(|&byte| byte == PATTERN)
+    }
+
+    /// Reading says what measuring says, or 13, or 14, and fills just what it says.
+    fn read(&mut self, bytes: &[u8], told: &Told) {
+        let (words, text) = (2 * told.rows as usize, told.text as usize);
+        let read = self.read_into(bytes, words + BEYOND, text + BEYOND);
+        self.hold("reading agrees with measuring", read == *told, bytes, &read);
+        let untouched = self.untouched(words, text);
+        self.hold("reading touches nothing beyond", untouched, bytes, &read);
+        if !told.is_success() {
+            let none = self.read_into(bytes, 0, 0);
+            return self.hold("a refusal does not depend on the room", none == *told, bytes, &none);
+        }
+        // one word less is one row less
+        let few = self.read_into(bytes, words - 1, text.saturating_sub(1));
+        let untouched = self.untouched(0, 0);
+        self.hold("too few rows: 13 at 0, nothing touched", few == Told::refusal(13, 0) && untouched, bytes, &few);
+        if text > 0 {
+            let short = self.read_into(bytes, words, text - 1);
+            let untouched = self.untouched(0, 0);
+            self.hold("too little text: 14 at 0, nothing touched", short == Told::refusal(14, 0) && untouched, bytes, &short);
+        }
+    }
+
+    /// With bytes appended a success stays, and so does a refusal other than 9.
+    fn append(&mut self, bytes: &[u8], told: &Told) {
+        self.appended += 1;
+        self.longer.clear();
+        self.longer.extend_from_slice(bytes);
+        for _ in 0..self.damage.random().within(1, 12) {
+            self.longer.push(self.damage.random().byte());
+        }
+        let longer = ours::measure(&self.longer);
+        if told.number == 9 {
+            self.changed += (longer != *told) as u64;
+        } else {
+            self.hold("appended bytes change nothing but a 9", longer == *told, bytes, &longer);
+        }
+    }
+
+    /// Each proper front of an accepted value is refused with 9: so at most one front is accepted.
+    fn fronts(&mut self, value: &[u8]) {
+        for i in 0..value.len().min(FRONTS) {
+            let length = if value.len() <= FRONTS { i } else { self.damage.random().below(value.len()) };
+            self.fronts += 1;
+            let told = ours::measure(&value[..length]);
+            self.hold("a front of a value is refused with 9", told.number == 9 && told.is_fair(), value, &told);
+        }
+    }
+
+    /// What was read is written, and that is read to the same table: all by the Rust wrapper, which has to say the same.
+    fn again(&mut self, bytes: &[u8], told: &Told) {
+        let mut table = Table { words: vec![0; 2 * told.rows as usize], text: vec![0; told.text as usize] };
+        let read = afsungar::read(bytes, &mut table.words, &mut table.text);
+        let same = read == afsungar::measure(bytes) && read.is_ok_and(|e| Told::success(e.length, e.rows, e.text) == *told);
+        self.hold("the Rust wrapper's reader agrees", same, bytes, told);
+        let size = afsungar::size(&table.words, &table.text);
+        let mut out = vec![PATTERN; size.unwrap_or(0)];
+        let written = afsungar::write(&table.words, &table.text, &mut out);
+        let back = ours::read_whole(&out).1;
+        self.hold("what was read is written and read again", size.is_ok() && written == size && back == table, bytes, told);
+    }
+
+    /// A step from the start is measuring; from the end on it is done.
+    fn step(&mut self, bytes: &[u8], told: &Told) {
+        let (step, at) = ours::step(bytes, 0);
+        let due = if bytes.is_empty() { Told::success(0, 0, 0) } else { Told { rows: 0, text: 0, ..*told } };
+        self.hold("a step agrees with measuring", step == due && at == step.length, bytes, &step);
+        for end in [bytes.len() as u64, bytes.len() as u64 + 1, u64::MAX] {
+            let (step, at) = ours::step(bytes, end);
+            self.hold("at the end or beyond it is done", step == Told::success(0, 0, 0) && at == end, bytes, &step);
+        }
+    }
+
+    /// Now and then, a walk through many runs end to end.
+    fn walk(&mut self, bytes: &[u8]) {
+        const MANY: usize = 2_000;
+        self.stream.extend_from_slice(bytes);
+        if self.stream.len() < MANY {
+            return;
+        }
+        let stream = std::mem::take(&mut self.stream);
+        let mut walker = afsungar::Walker::new(&stream);
+        let mut at = 0;
+        while at < stream.len() {
+            self.walked += 1;
+            let told = ours::measure(&stream[at..]);
+            let (step, to) = ours::step(&stream, at as u64);
+            let due = Told { rows: 0, text: 0, ..told };
+            self.hold("a walk measures at its own place", step == due && to == at as u64 + told.length, &stream[at..], &step);
+            let safe = walker.step();
+            let agree = match safe {
+                Some(Ok(value)) => told.is_success() && value == &stream[at..to as usize],
+                Some(Err(refusal)) => told.number == refusal.number as u64 && told.place == refusal.place,
+                None => false,
+            };
+            self.hold("the Rust wrapper's walker agrees", agree, &stream[at..], &step);
+            // behind a refusal the walk begins anew, one byte on
+            at += told.length.max(1) as usize;
+            walker = afsungar::Walker::at(&stream, at);
+        }
+        self.stream = stream;
+        self.stream.clear();
+    }
+
+    fn print(&self, plan: &Plan) {
+        let of = |what: &str, count| vec![what.to_string(), report::number(count)];
+        let refused = |n: usize| of(&format!("refused with {n}"), self.numbers[n]);
+        report::table(
+            1,
+            &[&format!("random, damaged and truncated bytes, seed {}", plan.seed), "number"],
+            &[
+                of("runs of bytes", plan.runs),
+                of("accepted", self.numbers[0]),
+                refused(3),
+                refused(4),
+                refused(9),
+                refused(10),
+                refused(11),
+                refused(12),
+                of("proper fronts of accepted values, all refused with 9", self.fronts),
+                of("runs with bytes appended", self.appended),
+                of("of these with another answer, all of them a 9 before", self.changed),
+                of("steps of walks through runs end to end", self.walked),
+            ],
+        );
+    }
+}

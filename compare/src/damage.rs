@@ -1,0 +1,105 @@
+//! Random, damaged and truncated bytes.
+
+use crate::{generate::Generator, ours, random::Random, table::Table};
+
+/// All 40 format codes, and a few bytes that are none.
+const CODES: [u8; 46] = [
+    0x00, 0x40, 0x41, 0x42, 0x43, 0x44, 0x45, 0x50, 0x51, 0x52, 0x53, 0x54, 0x55, 0x56, 0x60, 0x61, 0x70, 0x71, 0x72, 0x73, 0x74,
+    0x80, 0x81, 0x82, 0x83, 0x84, 0x94, 0x98, 0xa0, 0xa1, 0xa3, 0xb0, 0xb1, 0xb3, 0xc0, 0xc1, 0xd0, 0xd1, 0xe0, 0xf0, 0x01, 0x02,
+    0x03, 0x46, 0x7f, 0xff,
+];
+
+pub struct Damage {
+    random: Random,
+    tables: Generator,
+    bytes: Vec<u8>,
+    spare: Vec<u8>,
+}
+
+impl Damage {
+    pub fn new(seed: u64) -> Self {
+        Damage { random: Random::new(!seed), tables: Generator::all(seed), bytes: Vec::new(), spare: Vec::new() }
+    }
+
+    pub fn random(&mut self) -> &mut Random {
+        &mut self.random
+    }
+
+    /// The next run of bytes: sometimes good, mostly not.
+    pub fn bytes(&mut self) -> &[u8] {
+        match self.random.below(10) {
+            0 => self.noise(),
+            1 | 2 => self.codes(),
+            3 => self.written(),
+            4 => {
+                self.written();
+                let length = self.random.below(self.bytes.len());
+                self.bytes.truncate(length);
+            }
+            _ => {
+                self.written();
+                for _ in 0..self.random.within(1, 3) {
+                    self.hurt();
+                }
+            }
+        }
+        &self.bytes
+    }
+
+    fn noise(&mut self) {
+        self.bytes.clear();
+        for _ in 0..self.random.below(24) {
+            self.bytes.push(self.random.byte());
+        }
+    }
+
+    /// Codes, small sizes and counts, in any order.
+    fn codes(&mut self) {
+        self.bytes.clear();
+        for _ in 0..self.random.within(1, 24) {
+            let byte = match self.random.below(3) {
+                0 => self.random.below(12) as u8,
+                _ => self.random.of(&CODES),
+            };
+            self.bytes.push(byte);
+        }
+    }
+
+    /// A table's bytes, as we write them; long ones are left out, since there are enough of them elsewhere.
+    fn written(&mut self) {
+        const LONG: u64 = 2_000;
+        let table: &Table = loop {
+            let table = self.tables.table();
+            if ours::size(table).length <= LONG {
+                break table;
+            }
+        };
+        self.bytes.clear();
+        self.bytes.resize(ours::size(table).length as usize, 0);
+        ours::write(table, &mut self.bytes);
+    }
+
+    /// One change at one place.
+    fn hurt(&mut self) {
+        if self.bytes.is_empty() {
+            return;
+        }
+        let at = self.random.below(self.bytes.len());
+        match self.random.below(8) {
+            0 => self.bytes[at] = self.random.byte(),
+            1 => self.bytes[at] = self.random.of(&CODES),
+            2 => self.bytes[at] ^= 1 << self.random.below(8),
+            3 => self.bytes[at] = self.bytes[at].wrapping_add(1),
+            4 => self.bytes[at] = self.bytes[at].wrapping_sub(1),
+            5 => drop(self.bytes.remove(at)),
+            6 => self.bytes.insert(at, self.random.of(&CODES)),
+            _ => {
+                // a stretch again, behind itself
+                let to = (at + self.random.within(1, 8)).min(self.bytes.len());
+                self.spare.clear();
+                self.spare.extend_from_slice(&self.bytes[at..to]);
+                self.bytes.splice(to..to, self.spare.drain(..));
+            }
+        }
+    }
+}

@@ -1,0 +1,187 @@
+//! Value tables (docs/FORMAT.md, 2): rows of kind and number, and the text beside them.
+
+use std::fmt;
+
+/// The 25 kinds, each the format code of its full-width form.
+#[derive(Clone, Copy, Debug, PartialEq, Eq)]
+#[repr(u8)]
+pub enum Kind {
+    Described = 0x00,
+    Null = 0x40,
+    Ubyte = 0x50,
+    Byte = 0x51,
+    Boolean = 0x56,
+    Ushort = 0x60,
+    Short = 0x61,
+    Uint = 0x70,
+    Int = 0x71,
+    Float = 0x72,
+    Char = 0x73,
+    Decimal32 = 0x74,
+    Ulong = 0x80,
+    Long = 0x81,
+    Double = 0x82,
+    Timestamp = 0x83,
+    Decimal64 = 0x84,
+    Decimal128 = 0x94,
+    Uuid = 0x98,
+    Binary = 0xb0,
+    String = 0xb1,
+    Symbol = 0xb3,
+    List = 0xd0,
+    Map = 0xd1,
+    Array = 0xf0,
+}
+
+use Kind::*;
+
+impl Kind {
+    pub const ALL: [Kind; 25] = [
+        Described, Null, Ubyte, Byte, Boolean, Ushort, Short, Uint, Int, Float, Char, Decimal32, Ulong, Long, Double, Timestamp,
+        Decimal64, Decimal128, Uuid, Binary, String, Symbol, List, Map, Array,
+    ];
+
+    /// The 20 kinds that may be elements of an array.
+    pub const ELEMENTS: [Kind; 20] = [
+        Ubyte, Byte, Boolean, Ushort, Short, Uint, Int, Float, Char, Decimal32, Ulong, Long, Double, Timestamp, Decimal64,
+        Decimal128, Uuid, Binary, String, Symbol,
+    ];
+
+    pub fn of(word: u64) -> Option<Kind> {
+        Kind::ALL.into_iter().find(|&kind| kind as u64 == word)
+    }
+
+    pub fn is_element(self) -> bool {
+        !matches!(self, Described | Null | List | Map | Array)
+    }
+
+    /// The bits of the kind's number, where it is a number at all.
+    pub fn bits(self) -> Option<u32> {
+        match self {
+            Boolean => Some(1),
+            Ubyte | Byte => Some(8),
+            Ushort | Short => Some(16),
+            Uint | Int | Float | Char | Decimal32 => Some(32),
+            Ulong | Long | Double | Timestamp | Decimal64 => Some(64),
+            _ => None,
+        }
+    }
+
+    pub fn has_children(self) -> bool {
+        matches!(self, Described | List | Map | Array)
+    }
+
+    /// The bytes of text of a row.
+    pub fn text(self, number: u64) -> usize {
+        match self {
+            Decimal128 | Uuid => 16,
+            Binary | String | Symbol => number as usize,
+            _ => 0,
+        }
+    }
+}
+
+#[derive(Clone, Debug, Default, PartialEq, Eq)]
+pub struct Table {
+    pub words: Vec<u64>,
+    pub text: Vec<u8>,
+}
+
+impl Table {
+    pub fn clear(&mut self) {
+        self.words.clear();
+        self.text.clear();
+    }
+
+    pub fn row(&mut self, kind: Kind, number: u64) -> &mut Self {
+        self.words.extend([kind as u64, number]);
+        self
+    }
+
+    /// A row of binary, string or symbol.
+    pub fn worded(&mut self, kind: Kind, text: &[u8]) -> &mut Self {
+        self.text.extend_from_slice(text);
+        self.row(kind, text.len() as u64)
+    }
+
+    /// A row of decimal128 or uuid.
+    pub fn sixteen(&mut self, kind: Kind, text: &[u8; 16]) -> &mut Self {
+        self.text.extend_from_slice(text);
+        self.row(kind, 0)
+    }
+
+    pub fn rows(&self) -> usize {
+        self.words.len() / 2
+    }
+}
+
+/// As in docs/FORMAT.md: `d1:2 b3:1 70:2, text 76`.
+impl fmt::Display for Table {
+    fn fmt(&self, f: &mut fmt::Formatter<'_>) -> fmt::Result {
+        const MOST: usize = 24;
+        let rows: Vec<_> = self.words.chunks(2).take(MOST).map(|row| format!("{:02x}:{}", row[0], row[1])).collect();
+        write!(f, "{}", rows.join(" "))?;
+        if self.rows() > MOST {
+            write!(f, " .. ({} rows)", self.rows())?;
+        }
+        if !self.text.is_empty() {
+            write!(f, ", text {}", hex(&self.text))?;
+        }
+        Ok(())
+    }
+}
+
+/// Bytes in hex, two digits a byte; long runs are cut.
+pub fn hex(bytes: &[u8]) -> std::string::String {
+    const MOST: usize = 32;
+    let shown: Vec<_> = bytes.iter().take(MOST).map(|byte| format!("{byte:02x}")).collect();
+    match bytes.len() {
+        0 => "none".into(),
+        length if length > MOST => format!("{} .. ({length} bytes)", shown.join(" ")),
+        _ => shown.join(" "),
+    }
+}
+
+#[derive(Clone, Copy, Debug)]
+pub struct Row<'a> {
+    pub kind: Kind,
+    pub number: u64,
+    pub text: &'a [u8],
+}
+
+/// The rows of a table in order, each with its text. Only for tables whose kinds are known and whose text is long enough.
+#[derive(Clone, Copy)]
+pub struct Rows<'a> {
+    words: &'a [u64],
+    text: &'a [u8],
+}
+
+impl<'a> Rows<'a> {
+    pub fn of(table: &'a Table) -> Self {
+        Rows { words: &table.words, text: &table.text }
+    }
+}
+
+impl<'a> Iterator for Rows<'a> {
+    type Item = Row<'a>;
+
+    #[inline]
+    fn next(&mut self) -> Option<Row<'a>> {
+        let [kind, number, words @ ..] = self.words else { return None };
+        let kind = KINDS[*kind as usize & 0xff]?;
+        let (own, text) = self.text.split_at(kind.text(*number));
+        *self = Rows { words, text };
+        Some(Row { kind, number: *number, text: own })
+    }
+}
+
+/// `Kind::of` for a byte, by looking it up.
+static KINDS: [Option<Kind>; 256] = {
+    let mut kinds = [None; 256];
+    let mut i = 0;
+    while i < Kind::ALL.len() {
+        kinds[Kind::ALL[i] as usize] = Some(Kind::ALL[i]);
+        i += 1;
+    }
+    kinds
+};

@@ -1,0 +1,251 @@
+//! Times beside each other, in one run: ours, the ported crate's, Proton's.
+
+use crate::{
+    equal::depth,
+    original, ours, picture,
+    picture::{Line, Panel},
+    proton::Data,
+    report,
+    shapes::{self, Shape},
+    table::Table,
+};
+use std::hint::black_box;
+
+pub struct Plan {
+    pub rounds: usize,
+    pub picture: Option<String>,
+}
+
+/// ns a row.
+#[derive(Clone, Copy)]
+struct Times {
+    write: f64,
+    size: f64,
+    crate_write: f64,
+    proton_write: f64,
+    read: f64,
+    measure: f64,
+    proton_read: f64,
+}
+
+/// False where the three do not agree on a shape, or the picture cannot be written.
+pub fn run(plan: &Plan) -> bool {
+    report::heading("Times");
+    println!("ns of processor time a row, medians of {} rounds in which all take turns; {}.", plan.rounds, processor());
+    println!(
+        "{} rows but for the message. Ours: `afsungar_write` (which sizes first), `afsungar_read`, `afsungar_measure`. The crate",
+        report::number(shapes::ROWS as u64)
+    );
+    println!("writes the same rows to a `Vec` that is kept. Proton: `pn_data_encode` of a tree that stands, `pn_data_decode` of our bytes.");
+    println!("Compiled: ours and the crate at -O3 for the processor's plainest form, Proton as Debian has it.\n");
+    let mut agree = true;
+    let mut writes = Vec::new();
+    let mut reads = Vec::new();
+    for Shape { name, table } in shapes::all() {
+        agree &= same(&name, &table);
+        let t = times(&table, plan.rounds);
+        let depth = depth(&table).to_string();
+        let ratio = |other: f64, own: f64| format!("{:.2}", other / own);
+        writes.push(vec![
+            name.clone(),
+            depth.clone(),
+            ns(t.write),
+            ns(t.size),
+            ns(t.crate_write),
+            ns(t.proton_write),
+            ratio(t.crate_write, t.write),
+            ratio(t.proton_write, t.write),
+        ]);
+        reads.push(vec![
+            name,
+            depth,
+            ns(t.read),
+            ns(t.measure),
+            ns(t.proton_read),
+            ratio(t.proton_read, t.read),
+            ratio(t.proton_read, t.measure),
+        ]);
+    }
+    report::table(
+        1,
+        &["writing", "depth", "ours", "ours, sizing alone", "the crate", "Proton", "crate / ours", "Proton / ours"],
+        &writes,
+    );
+    report::table(
+        1,
+        &["reading", "depth", "ours, into rows", "ours, measuring", "Proton", "Proton / rows", "Proton / measuring"],
+        &reads,
+    );
+    agree & by_depth(plan)
+}
+
+fn ns(time: f64) -> String {
+    format!("{time:.1}")
+}
+
+/// Chains of ever more lists, as a table and as a picture.
+fn by_depth(plan: &Plan) -> bool {
+    const LISTS: [usize; 10] = [0, 2, 5, 9, 13, 17, 20, 24, 27, 30];
+    let all: Vec<(f64, Times)> = LISTS
+        .iter()
+        .map(|&lists| {
+            let table = shapes::chains(lists);
+            (depth(&table) as f64, times(&table, plan.rounds))
+        })
+        .collect();
+    let rows: Vec<_> = all
+        .iter()
+        .map(|(depth, t)| {
+            let figures = [t.write, t.crate_write, t.proton_write, t.read, t.measure, t.proton_read].map(ns);
+            [vec![depth.to_string()], figures.to_vec()].concat()
+        })
+        .collect();
+    report::table(
+        0,
+        &["depth of chains", "we write", "the crate writes", "Proton writes", "we read", "we measure", "Proton reads"],
+        &rows,
+    );
+    let Some(path) = &plan.picture else { return true };
+    let line = |name, colour, of: fn(&Times) -> f64| Line {
+        name,
+        colour,
+        points: all.iter().map(|(depth, t)| (*depth, of(t))).collect(),
+    };
+    let svg = picture::draw(
+        "ns a row against depth: chains of lists, 60,000 rows",
+        &[
+            Panel {
+                title: "writing",
+                lines: vec![
+                    line("ours", picture::OURS, |t| t.write),
+                    line("the crate", picture::CRATE, |t| t.crate_write),
+                    line("Proton", picture::PROTON, |t| t.proton_write),
+                ],
+            },
+            Panel {
+                title: "reading",
+                lines: vec![
+                    line("ours, into rows", picture::OURS, |t| t.read),
+                    line("ours, measuring", picture::MEASURE, |t| t.measure),
+                    line("Proton", picture::PROTON, |t| t.proton_read),
+                ],
+            },
+        ],
+    );
+    match std::fs::write(path, svg) {
+        Ok(()) => true,
+        Err(error) => {
+            println!("- the picture was not written: {path}: {error}");
+            false
+        }
+    }
+}
+
+/// Whether the crate writes what we write, and Proton and we read that to the table.
+fn same(name: &str, table: &Table) -> bool {
+    let mut bytes = vec![0; ours::size(table).length as usize];
+    let mut theirs = Vec::new();
+    let mut data = Data::new();
+    let same = ours::write(table, &mut bytes).is_success()
+        && original::write(table, &mut theirs).is_ok()
+        && theirs == bytes
+        && ours::read_whole(&bytes).1 == *table
+        && data.decode(&bytes) == Ok(bytes.len())
+        && data.table().as_ref() == Some(table);
+    if !same {
+        println!("- **the three do not agree** on {name}\n");
+    }
+    same
+}
+
+fn times(table: &Table, rounds: usize) -> Times {
+    let Table { words, text } = table;
+    let mut bytes = vec![0; ours::size(table).length as usize];
+    ours::write(table, &mut bytes);
+    let (mut out, mut theirs, mut proton_out) = (bytes.clone(), Vec::with_capacity(bytes.len()), vec![0; 10 * bytes.len() + 64]);
+    let (mut row_room, mut text_room) = (vec![0; words.len()], vec![0; text.len()]);
+    let (mut tree, mut read_tree) = (Data::new(), Data::new());
+    tree.put(table).expect("Proton takes the table");
+
+    let mut works: [Box<dyn FnMut() + '_>; 7] = [
+        Box::new(|| keep(afsungar::write(black_box(words), black_box(text), &mut out))),
+        Box::new(|| keep(afsungar::size(black_box(words), black_box(text)))),
+        Box::new(|| {
+            theirs.clear();
+            keep(original::write(black_box(table), &mut theirs));
+        }),
+        Box::new(|| keep(tree.encode(&mut proton_out))),
+        Box::new(|| keep(afsungar::read(black_box(&bytes), &mut row_room, &mut text_room))),
+        Box::new(|| keep(afsungar::measure(black_box(&bytes)))),
+        Box::new(|| keep(read_tree.decode(black_box(&bytes)))),
+    ];
+    let medians = medians(&mut works, rounds).map(|time| time / table.rows() as f64);
+    let [write, size, crate_write, proton_write, read, measure, proton_read] = medians;
+    Times { write, size, crate_write, proton_write, read, measure, proton_read }
+}
+
+/// The median time of each work, in ns. All take turns, so that a slow moment meets all.
+fn medians<const N: usize>(works: &mut [Box<dyn FnMut() + '_>; N], rounds: usize) -> [f64; N] {
+    const SHORTEST: f64 = 200_000.0; // of a turn, in ns
+    let mut turn = [1usize; N];
+    for (work, turn) in works.iter_mut().zip(&mut turn) {
+        time(work, 3);
+        *turn = (SHORTEST / time(work, 3)).ceil() as usize;
+    }
+    let mut taken = [(); N].map(|()| Vec::with_capacity(rounds));
+    for _ in 0..rounds {
+        for i in 0..N {
+            taken[i].push(time(&mut works[i], turn[i]));
+        }
+    }
+    taken.map(|mut times| {
+        times.sort_by(f64::total_cmp);
+        times[times.len() / 2]
+    })
+}
+
+/// ns for one of so many times.
+fn time(work: &mut impl FnMut(), times: usize) -> f64 {
+    let start = clock::spent();
+    for _ in 0..times {
+        work();
+    }
+    (clock::spent() - start) as f64 / times as f64
+}
+
+/// Makes the compiler believe that a result is used.
+fn keep<T>(result: T) {
+    black_box(result);
+}
+
+/// The time that this thread has had the processor: other programs on the machine do not count.
+mod clock {
+    use std::os::raw::{c_int, c_long};
+
+    #[repr(C)]
+    struct Timespec {
+        seconds: c_long,
+        nanoseconds: c_long,
+    }
+
+    extern "C" {
+        fn clock_gettime(clock: c_int, time: *mut Timespec) -> c_int;
+    }
+
+    /// In ns.
+    pub fn spent() -> u64 {
+        const THREAD: c_int = 3; // CLOCK_THREAD_CPUTIME_ID of Linux
+        let mut time = Timespec { seconds: 0, nanoseconds: 0 };
+        // SAFETY: `time` is what the call asks for.
+        let failed = unsafe { clock_gettime(THREAD, &mut time) };
+        assert_eq!(failed, 0, "the thread's clock can be read");
+        time.seconds as u64 * 1_000_000_000 + time.nanoseconds as u64
+    }
+}
+
+fn processor() -> String {
+    let info = std::fs::read_to_string("/proc/cpuinfo").unwrap_or_default();
+    let name =
+        info.lines().find_map(|line| line.strip_prefix("model name")).map(|rest| rest.trim_start_matches(['\t', ' ', ':']));
+    format!("{}, {}", std::env::consts::ARCH, name.unwrap_or("processor not named"))
+}

@@ -1,0 +1,2 @@
+-- What a C caller is told.
+pub mod Boundary
