@@ -62,6 +62,14 @@ behind-of (suc l) c p r e y h i j =
     let d : suc l - 1 ≡ l = omega arith in
     rw d (ap (measured (length r)) (ap (λ (x : codes.Entry). behind (below l) l (x .kind) p r (x .layout)) (sym i) ∙ ap (λ (y : in-code.Layout). behind (below l) l (e .0) p r (layoutIs y)) j))
 
+-- and of a list or a map, by its code
+pub compound-of : (l c p k w : ℕ) (r : List ℕ) → 0 < l → kindOf c ≡ k → layoutOf c ≡ compound w → measured (length r) (payload l c p r) ≡ measured (length r) (behind (below (l - 1)) (l - 1) k p r (compound w))
+unfolding payload
+compound-of zero c p k w r h e f = absurd (omega arith)
+compound-of (suc l) c p k w r h e f =
+    let d : suc l - 1 ≡ l = omega arith in
+    rw (d, e, f)
+
 module _ (l k p : ℕ) where
   pub unknown-is : (n : ℕ) (r : List ℕ) → measured n (behind (below l) l k p r unknown) ≡ refused codeUnknown p
   unfolding behind measured

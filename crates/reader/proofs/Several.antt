@@ -2,6 +2,7 @@
 use Prim.Native.Nat.{ℕ, zero, suc, _+_, _-_, _^_, _≤_, _<_}
 use mathlib.Core.Path.{_≡_, refl, sym, ap, _∙_}
 use mathlib.Core.List.{List, [], _∷_, _++_}
+use mathlib.Core.Bool.{true, false}
 use native.Mathlib.Omega.{arith}
 use native.Mathlib.Nat.{add-zero, add-assoc}
 use lib.ListN.{length, drop, length-append, length-drop}
@@ -13,11 +14,12 @@ use Rattle.standard.specs.Read.{many, coded, payload}
 use Rattle.laws.specs.Answers.{Holds, yes′, no′, on, weaken, out}
 use Rattle.laws.specs.Bounds.{small}
 use Rattle.laws.specs.Sound.{payload-sound}
-use Rattle.reader.specs.Measuring.{fits, refused, measured, several, reads, reach, codeAt, Roomy, Plain}
+use Rattle.reader.specs.Measuring.{fits, refused, measured, several, tallyIs, reads, reach, codeAt, Roomy, Plain}
 use Rattle.reader.specs.declared.measuring.Extent.{Extent}
 use Rattle.standard.specs.declared.refusal.Refusal.{Refusal}
 use Rattle.reader.specs.declared.measuring.Measured.{Measured}
 use Rattle.reader.specs.declared.measuring.Measured.the-variants.{Fits, Refused}
+use Rattle.reader.specs.declared.measuring.Tally.{Tally}
 use Rattle.reader.specs.declared.measuring.Head.{Head}
 use Rattle.reader.specs.declared.measuring.Head.the-variants.{Own, Under}
 use Rattle.reader.specs.declared.measuring.Start.the-variants.{Behind, Bad}
@@ -96,6 +98,14 @@ refused-of n (got (v, z)) f h = let z : _≡_ {A = ℕ} 0 1 = cc in absurd (omeg
 refused-of n (refuse x (at p)) f h =
     let i : f ≡ record { number = x; place = p } = cc in
     rw i
+
+pub tally-fits : (t : Tally) → t .fits ≡ true → tallyIs t ≡ fits (t .length) (t .rows) (t .text)
+unfolding tallyIs
+tally-fits t e = rw e
+
+pub tally-refused : (t : Tally) → t .fits ≡ false → tallyIs t ≡ refused (t .number) (t .place)
+unfolding tallyIs
+tally-refused t e = rw e
 
 -- The code of a value, and where what stands behind it begins
 

@@ -11,6 +11,7 @@ use Rattle.standard.specs.Tree.{Tree, Trees, tall, tall*, text, text*}
 use Rattle.standard.specs.Read.{coded, payload}
 use Rattle.reader.specs.declared.measuring.Measured.{Measured}
 use Rattle.reader.specs.declared.measuring.Measured.the-variants.{Fits, Refused}
+use Rattle.reader.specs.declared.measuring.Tally.{Tally}
 use Rattle.reader.specs.declared.measuring.Head.{Head}
 use Rattle.reader.specs.declared.measuring.Head.the-variants.{Own, Under}
 use Rattle.reader.specs.declared.measuring.Start.{Start}
@@ -25,6 +26,10 @@ fits n i j = Fits (record { length = n; rows = i; text = j })
 
 abbrev pub refused : (number place : ℕ) → Measured
 refused x p = Refused (record { number = x; place = p })
+
+-- what was measured, as a struct says it
+unfoldable pub tallyIs : Tally → Measured
+tallyIs t = if (t .fits) (fits (t .length) (t .rows) (t .text)) (refused (t .number) (t .place))
 
 -- a value in a room of n bytes
 unfoldable pub measured : (room : ℕ) → Answer (Tree × List ℕ) → Measured

@@ -5,15 +5,16 @@
 // below it are kept in two arrays. A run that is used up is not kept, so there are never more runs than a value has levels.
 ghost use mathlib.Core.Path.{_≡_};
 ghost use Prim.Native.Nat.{_+_, _-_, _≤_, _<_};
-ghost use lib.Dec.{T};
+ghost use mathlib.Core.Bool.{_||_};
+ghost use lib.Dec.{T, eqb};
 ghost use lib.ListN.{length, take, drop};
 ghost use lib.Seq.{sets};
-ghost use Rattle.standard.specs.Codes.{kindOf, layoutOf, array};
+ghost use Rattle.standard.specs.Codes.{kindOf, layoutOf, scalar, compound, array, whole, small, sized};
 ghost use Rattle.standard.specs.Grammar.{extend};
 ghost use Rattle.standard.specs.Read.{front};
 ghost use Rattle.standard.specs.Outcomes.{levelMost, over};
 ghost use Rattle.laws.specs.Flat.{push, stepOf, behindStep};
-ghost use Rattle.reader.specs.Entries.{narrow};
+ghost use Rattle.reader.specs.Entries.{narrow, usual};
 ghost use Rattle.reader.specs.Filling.{Lands, leafRow, parentRow, headIs, keptIs, dueIs, Kept, Topped, RowFound, CodeFound, Fillable, rowsIn, textIn};
 use crate::number::byte;
 use crate::number::narrow_at;
@@ -102,8 +103,42 @@ fn array_row(bytes: &[u8], at: usize, kind: u64, width: usize) -> Row
     parent(kind, count, body + 1, byte(bytes[body]))
 }
 
-// The row of what stands behind a code.
-fn row_behind(bytes: &[u8], at: usize, code: u8) -> Row
+// The row of a number, behind its code.
+fn whole_row(bytes: &[u8], at: usize, kind: u64, width: usize) -> Row
+    requires { ⌜ T (usual width) × (at ≤ length (now bytes)) × Lands (behindStep kind (drop at (now bytes)) (scalar (whole width))) ⌝ }
+    ensures { λ r. ⌜ RowFound (now (bytes .entry)) (behindStep kind (drop at (now (bytes .entry))) (scalar (whole width))) r ⌝ }
+{
+    leaf(kind, number_at(bytes, at, width), at + width, 0)
+}
+
+// The row of a number of one byte, two's complement.
+fn small_row(bytes: &[u8], at: usize, kind: u64, width: usize) -> Row
+    requires { ⌜ T (eqb width 4 || eqb width 8) × (at ≤ length (now bytes)) × Lands (behindStep kind (drop at (now bytes)) (scalar (small width))) ⌝ }
+    ensures { λ r. ⌜ RowFound (now (bytes .entry)) (behindStep kind (drop at (now (bytes .entry))) (scalar (small width))) r ⌝ }
+{
+    leaf(kind, extended(byte(bytes[at]), width), at + 1, 0)
+}
+
+// The row of a text, behind its code.
+fn sized_row(bytes: &[u8], at: usize, kind: u64, width: usize) -> Row
+    requires { ⌜ T (narrow width) × (at ≤ length (now bytes)) × Lands (behindStep kind (drop at (now bytes)) (scalar (sized width))) ⌝ }
+    ensures { λ r. ⌜ RowFound (now (bytes .entry)) (behindStep kind (drop at (now (bytes .entry))) (scalar (sized width))) r ⌝ }
+{
+    let length = narrow_at(bytes, at, width);
+    leaf(kind, length, at + width, length as usize)
+}
+
+// The row of a list or a map, behind its code.
+fn compound_row(bytes: &[u8], at: usize, kind: u64, width: usize) -> Row
+    requires { ⌜ T (narrow width) × (at ≤ length (now bytes)) × Lands (behindStep kind (drop at (now bytes)) (compound width)) ⌝ }
+    ensures { λ r. ⌜ RowFound (now (bytes .entry)) (behindStep kind (drop at (now (bytes .entry))) (compound width)) r ⌝ }
+{
+    let count = narrow_at(bytes, at + width, width);
+    parent(kind, count, at + width + width, OWN)
+}
+
+// The row of what stands behind a code, by its entry.
+fn entry_row(bytes: &[u8], at: usize, code: u8) -> Row
     requires { ⌜ (at ≤ length (now bytes)) × Lands (behindStep (kindOf code) (drop at (now bytes)) (layoutOf code)) ⌝ }
     ensures { λ r. ⌜ RowFound (now (bytes .entry)) (behindStep (kindOf code) (drop at (now (bytes .entry))) (layoutOf code)) r ⌝ }
 {
@@ -115,20 +150,46 @@ fn row_behind(bytes: &[u8], at: usize, code: u8) -> Row
         Layout::Unknown => leaf(0, 0, at, 0),
         Layout::Described => parent(kind, 2, at, OWN),
         Layout::Constant(number) => leaf(kind, number, at, 0),
-        Layout::Whole(width) => leaf(kind, number_at(bytes, at, width), at + width, 0),
-        Layout::Small(width) => leaf(kind, extended(byte(bytes[at]), width), at + 1, 0),
+        Layout::Whole(width) => whole_row(bytes, at, kind, width),
+        Layout::Small(width) => small_row(bytes, at, kind, width),
         Layout::Raw(width) => leaf(kind, 0, at, width),
-        Layout::Sized(width) => {
-            let length = narrow_at(bytes, at, width);
-            leaf(kind, length, at + width, length as usize)
-        }
-        Layout::Compound(width) => parent(
-            kind,
-            narrow_at(bytes, at + width, width),
-            at + width + width,
-            OWN,
-        ),
+        Layout::Sized(width) => sized_row(bytes, at, kind, width),
+        Layout::Compound(width) => compound_row(bytes, at, kind, width),
         Layout::Array(width) => array_row(bytes, at, kind, width),
+    }
+}
+
+// The row of what stands behind a code. The usual codes go their own way at once: looking the entry up takes as long again.
+fn row_behind(bytes: &[u8], at: usize, code: u8) -> Row
+    requires { ⌜ (at ≤ length (now bytes)) × Lands (behindStep (kindOf code) (drop at (now bytes)) (layoutOf code)) ⌝ }
+    ensures { λ r. ⌜ RowFound (now (bytes .entry)) (behindStep (kindOf code) (drop at (now (bytes .entry))) (layoutOf code)) r ⌝ }
+{
+    match code {
+        format_code::DESCRIBED => parent(0x00, 2, at, OWN),
+        format_code::NULL => whole_row(bytes, at, 0x40, 0),
+        format_code::TRUE => leaf(0x56, 1, at, 0),
+        format_code::FALSE => leaf(0x56, 0, at, 0),
+        format_code::UINT_0 => leaf(0x70, 0, at, 0),
+        format_code::ULONG_0 => leaf(0x80, 0, at, 0),
+        format_code::LIST_0 => leaf(0xd0, 0, at, 0),
+        format_code::SMALL_UINT => whole_row(bytes, at, 0x70, 1),
+        format_code::SMALL_ULONG => whole_row(bytes, at, 0x80, 1),
+        format_code::SMALL_INT => small_row(bytes, at, 0x71, 4),
+        format_code::SMALL_LONG => small_row(bytes, at, 0x81, 8),
+        format_code::UINT => whole_row(bytes, at, 0x70, 4),
+        format_code::INT => whole_row(bytes, at, 0x71, 4),
+        format_code::ULONG => whole_row(bytes, at, 0x80, 8),
+        format_code::LONG => whole_row(bytes, at, 0x81, 8),
+        format_code::DOUBLE => whole_row(bytes, at, 0x82, 8),
+        format_code::TIMESTAMP => whole_row(bytes, at, 0x83, 8),
+        format_code::BINARY_8 => sized_row(bytes, at, 0xb0, 1),
+        format_code::STRING_8 => sized_row(bytes, at, 0xb1, 1),
+        format_code::SYMBOL_8 => sized_row(bytes, at, 0xb3, 1),
+        format_code::LIST_8 => compound_row(bytes, at, 0xd0, 1),
+        format_code::MAP_8 => compound_row(bytes, at, 0xd1, 1),
+        format_code::LIST_32 => compound_row(bytes, at, 0xd0, 4),
+        format_code::MAP_32 => compound_row(bytes, at, 0xd1, 4),
+        _ => entry_row(bytes, at, code),
     }
 }
 

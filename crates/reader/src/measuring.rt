@@ -4,6 +4,7 @@
 // They call each other with fewer levels left; values that stand side by side are taken in one loop. A room is a part of the
 // caller's bytes, and nothing beyond it is looked at.
 ghost use mathlib.Core.Path.{_≡_};
+ghost use mathlib.Core.Bool.{true};
 ghost use Prim.Native.Nat.{ℕ, _+_, _^_, _≤_, _<_};
 ghost use lib.Dec.{T};
 ghost use lib.ListN.{length, take, drop};
@@ -14,9 +15,9 @@ ghost use Rattle.standard.specs.Kinds.{fair, paired};
 ghost use Rattle.standard.specs.Read as read;
 ghost use Rattle.standard.specs.Outcomes as outcome;
 ghost use Rattle.standard.specs.Outcomes.{levelMost};
-ghost use Rattle.reader.specs.Entries.{narrow, sure};
+ghost use Rattle.reader.specs.Entries.{narrow, sure, plainBelow, plainWidth, compoundWidth, compoundKind};
 ghost use Rattle.reader.specs.InCode.{measuredIs, bodyIs};
-ghost use Rattle.reader.specs.Measuring.{refused, block, measured, several, contents, above, closed, heldAt, below, reads, reach, codeAt, elementOf, Roomy, Within, Plain};
+ghost use Rattle.reader.specs.Measuring.{refused, block, measured, several, contents, above, closed, heldAt, below, reads, reach, codeAt, elementOf, tallyIs, Roomy, Within, Plain};
 use crate::number::narrow_at;
 use standard::format_code;
 use standard::format_code::Layout;
@@ -34,6 +35,17 @@ pub struct Extent {
 pub enum Measured {
     Fits(Extent),
     Refused(Refusal),
+}
+
+// What was measured, as a struct: where it `fits` length, rows and text, else number and place of the refusal.
+// An enum goes through memory where branches that build it meet; the fields of a struct stay in registers.
+struct Tally {
+    fits: bool,
+    length: usize,
+    rows: usize,
+    text: usize,
+    number: usize,
+    place: usize,
 }
 
 // Whether a value begins with its own code, or stands behind a code given before, as the elements of an array do.
@@ -264,35 +276,85 @@ fn code_at(s: &[u8], at: usize, head: Head, levels: usize) -> Start
     }
 }
 
-// The width of a scalar of which nothing but its length has to be looked at, as of most values; more than any room has for other codes.
+// Plain are the codes of scalars of which nothing but the length has to be looked at, as of most values. Of the codes with that upper
+// half those are plain whose lower half is below this. It is computed, with no branch for each code: codes come in any order, and a
+// branch that was guessed wrong costs more than the rest of a turn.
+fn plain_below(upper: u8) -> u8
+    ensures { λ r. ⌜ r ≡ plainBelow upper ⌝ }
+{
+    match upper {
+        4 => 6,
+        5 => 6,
+        6 => 2,
+        7 => 3,
+        8 => 5,
+        _ => 0,
+    }
+}
+
+// Is a code plain. Some that could be are not, and go by their entries.
+fn is_plain(code: u8) -> bool
+    ensures { λ r. ⌜ (r ≡ true → Plain code (plainWidth code)) ⌝ }
+{
+    if code % 16 < plain_below(code / 16) {
+        return true;
+    }
+    false
+}
+
+// The width of a scalar with a plain code: 0, 1, 2, 4 and 8 for the upper halves 4 to 8.
 fn plain_width(code: u8) -> usize
-    ensures { λ r. ⌜ (r < 2 ^ 63 → Plain code r) ⌝ }
+    ensures { λ r. ⌜ (r ≡ plainWidth code) × (r < 2 ^ 16) ⌝ }
+{
+    let upper = (code / 16) as usize;
+    (1usize << upper) / 32
+}
+
+// The width of the size and the count of a list or a map, 0 for other codes.
+fn compound_width(code: u8) -> usize
+    ensures { λ r. ⌜ r ≡ compoundWidth code ⌝ }
 {
     match code {
-        format_code::NULL => 0,
-        format_code::TRUE => 0,
-        format_code::FALSE => 0,
-        format_code::UINT_0 => 0,
-        format_code::ULONG_0 => 0,
-        format_code::LIST_0 => 0,
-        format_code::UBYTE => 1,
-        format_code::BYTE => 1,
-        format_code::SMALL_UINT => 1,
-        format_code::SMALL_ULONG => 1,
-        format_code::SMALL_INT => 1,
-        format_code::SMALL_LONG => 1,
-        format_code::USHORT => 2,
-        format_code::SHORT => 2,
-        format_code::UINT => 4,
-        format_code::INT => 4,
-        format_code::FLOAT => 4,
-        format_code::DECIMAL_32 => 4,
-        format_code::ULONG => 8,
-        format_code::LONG => 8,
-        format_code::DOUBLE => 8,
-        format_code::TIMESTAMP => 8,
-        format_code::DECIMAL_64 => 8,
-        _ => usize::MAX,
+        format_code::LIST_8 => format_code::Compound8::COUNT_WIDTH,
+        format_code::MAP_8 => format_code::Compound8::COUNT_WIDTH,
+        format_code::LIST_32 => format_code::Compound32::COUNT_WIDTH,
+        format_code::MAP_32 => format_code::Compound32::COUNT_WIDTH,
+        _ => 0,
+    }
+}
+
+// The kind of a list or a map.
+fn compound_kind(code: u8) -> u64
+    ensures { λ r. ⌜ r ≡ compoundKind code ⌝ }
+{
+    match code {
+        format_code::LIST_8 => 0xd0,
+        format_code::LIST_32 => 0xd0,
+        _ => 0xd1,
+    }
+}
+
+// What was measured, as a struct.
+fn told(m: Measured) -> Tally
+    ensures { λ r. ⌜ tallyIs r ≡ m ⌝ }
+{
+    match m {
+        Measured::Fits(e) => Tally {
+            fits: true,
+            length: e.length,
+            rows: e.rows,
+            text: e.text,
+            number: 0,
+            place: 0,
+        },
+        Measured::Refused(f) => Tally {
+            fits: false,
+            length: 0,
+            rows: 0,
+            text: 0,
+            number: f.number,
+            place: f.place,
+        },
     }
 }
 
@@ -311,19 +373,18 @@ fn many(s: &[u8], head: Head, count: usize, place: usize, levels: usize) -> Meas
         match code_at(s, at, head, levels) {
             Start::Bad(number) => return refuse(number, place + at),
             Start::Behind { code, from } => {
-                let width = plain_width(code);
-                if width <= s.len() - from {
-                    at = from + width;
+                let end = from + plain_width(code);
+                if is_plain(code) && end <= s.len() {
+                    at = end;
                     rows += 1;
                 } else {
-                    match payload(&s[from..], code, place + at, levels) {
-                        Measured::Refused(f) => return Measured::Refused(f),
-                        Measured::Fits(e) => {
-                            at = from + e.length;
-                            rows += e.rows;
-                            text += e.text;
-                        }
+                    let t = payload(&s[from..], code, place + at, levels);
+                    if !t.fits {
+                        return refuse(t.number, t.place);
                     }
+                    at = from + t.length;
+                    rows += t.rows;
+                    text += t.text;
                 }
             }
         }
@@ -335,9 +396,22 @@ fn many(s: &[u8], head: Head, count: usize, place: usize, levels: usize) -> Meas
     })
 }
 
-// What stands behind a code.
-fn payload(s: &[u8], code: u8, place: usize, levels: usize) -> Measured
+// What stands behind a code. Lists and maps, of which there are many, do not wait for their entry.
+fn payload(s: &[u8], code: u8, place: usize, levels: usize) -> Tally
     requires { ⌜ (place + 1 + length (now s) < 2 ^ 63) × (0 < levels) ⌝ }
+    ensures { λ r. ⌜ tallyIs r ≡ measured (length (now (s .entry))) (read.payload levels code place (now (s .entry))) ⌝ }
+{
+    let width = compound_width(code);
+    if 0 < width {
+        let kind = compound_kind(code);
+        return told(compound(s, width, kind, place, levels - 1));
+    }
+    told(behind(s, code, place, levels))
+}
+
+// What stands behind a code that is not a list's or a map's.
+fn behind(s: &[u8], code: u8, place: usize, levels: usize) -> Measured
+    requires { ⌜ (place + 1 + length (now s) < 2 ^ 63) × (0 < levels) × (compoundWidth code ≤ 0) ⌝ }
     ensures { λ r. ⌜ r ≡ measured (length (now (s .entry))) (read.payload levels code place (now (s .entry))) ⌝ }
 {
     let e = format_code::entry_of(code);
@@ -351,7 +425,8 @@ fn payload(s: &[u8], code: u8, place: usize, levels: usize) -> Measured
         Layout::Small(_) => fixed(s, 1, 0, place),
         Layout::Raw(width) => fixed(s, width, width, place),
         Layout::Sized(width) => sized(s, width, kind, place),
-        Layout::Compound(width) => compound(s, width, kind, place, levels - 1),
+        // These are not asked for here: this is never reached.
+        Layout::Compound(_) => refuse(refusal::CODE_UNKNOWN, place),
         Layout::Array(width) => array(s, width, place, levels - 1),
     }
 }

@@ -74,7 +74,12 @@ module _ (c : Spot) (i k n : ℕ) (w x : List ℕ) where
       check-good (suc l) h e f = rw (a, b, d, le-leb (letters (styleOf k) n) (length x) e, f)
 
 -- what was found of a part of the text
+pub clean-run : (k : ℕ) (x : List ℕ) (a n : ℕ) (b d : Bool) → b ≡ clean k (take (a + n - a) (drop a x)) → b ≡ d → clean k (take n (drop a x)) ≡ d
+clean-run k x a n b d e g =
+    let j : a + n - a ≡ n = omega arith in
+    rw j at (sym e) ∙ g
+
 pub clean-part : (k m : ℕ) (x : List ℕ) (a n : ℕ) (s : Style) (b d : Bool) → b ≡ clean k (take (a + n - a) (drop a x)) → n ≡ letters s m → s ≡ styleOf k → b ≡ d → clean k (take (letters (styleOf k) m) (drop a x)) ≡ d
 clean-part k m x a n s b d e f h g =
-    let j : a + n - a ≡ letters (styleOf k) m = rw (← h) (omega arith) in
-    rw j at (sym e) ∙ g
+    let j : n ≡ letters (styleOf k) m = rw h at f in
+    rw (← j) (clean-run k x a n b d e g)

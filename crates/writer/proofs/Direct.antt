@@ -1,14 +1,14 @@
--- Rows that are written by their kind at once: what the arms of a match leave out, and the heads that are all of a row.
+-- Rows that are written by their kind at once: what the arms of a match leave out, and the bytes that are all of a row.
 use Prim.Native.Nat.{ℕ, suc, _+_, _%_, _^_, _≤_, _<_}
-use mathlib.Core.Path.{_≡_, refl, ap}
-use mathlib.Core.List.{List, [], _∷_, _++_}
+use mathlib.Core.Path.{_≡_, refl, sym, ap, _∙_}
+use mathlib.Core.List.{List, [], _∷_, _++_, append-nil}
 use mathlib.Core.Bool.{Bool, true, false}
 use mathlib.Core.Logic.{_⊎_, inl, inr, ⊎-elim}
 use native.Mathlib.Omega.{arith}
 use borrow.Author.Tests.{ne-eqb}
 use lib.Dec.{eqb, ltb}
-use lib.ListN.{length, take, drop, set, length-append}
-use lib.Seq.{sets}
+use lib.ListN.{length, take, drop, set, length-append, length-drop}
+use lib.Seq.{sets, length-take-le}
 use Rattle.standard.specs.Choose.{if, lookup}
 use Rattle.standard.specs.Bytes.{be, unbe}
 use Rattle.standard.specs.Kinds.{unsigned, Style, foreign, numbered, blob, lettered, listed, mapped, arrayed, describing, kind, kinds, styleOf}
@@ -18,11 +18,11 @@ use Rattle.laws.specs.Numbers.{length-be}
 use Rattle.standard.proofs.Lookup.{Rest}
 use Rattle.writer.specs.Heads.{head}
 use Rattle.writer.specs.Marks.{markWidth}
-use Rattle.writer.specs.Filling.{elementsOf, elementCode, isNumber, isListOrMap, numberHead, compoundHead, Put, behind, kindAt, numberAt, Ready, Stepped}
+use Rattle.writer.specs.Filling.{elementsOf, elementCode, isNumber, isLettered, isListOrMap, numberHead, compoundHead, lettersRow, Put, behind, kindAt, numberAt, lettersAt, markAt, dueAt, ownAt, Ready, Stepped}
 use Rattle.writer.specs.declared.filling.Cursor.{Cursor}
 use Rattle.writer.proofs.Tabled.{kindsOnto, other}
 use Rattle.laws.specs.Stores.{put-on}
-use Rattle.writer.proofs.Rows.{Row, value-row, stepped}
+use Rattle.writer.proofs.Rows.{value-row}
 
 -- A code and a number behind it
 
@@ -51,9 +51,17 @@ unsigned-long z s k w n = go (eqb n 0) (ltb n 256)
 pub sized-long : (k w x n : ℕ) → length (k ∷ be w x ++ be w n) ≡ 1 + w + w
 sized-long k w x n = omega (arith, length-append (k ∷ be w x) (be w n), coded-long k w x, length-be w n)
 
-pub sized-put : (l l₁ l₂ : List ℕ) (at k w x n r : ℕ) → Put (k ∷ be w x) l at l₁ r → l₂ ≡ sets l₁ (at + r) (be w n) → Put (k ∷ be w x ++ be w n) l at l₂ (r + w)
-sized-put l l₁ l₂ at k w x n r p e =
-    record { size = omega (arith, p .size, coded-long k w x, sized-long k w x n); stored = put-on l l₁ l₂ at (at + r) (k ∷ be w x) (be w n) (p .stored) e (omega (arith, p .size)) }
+-- a code, a number and a part of a text
+pub run-long : (k w : ℕ) (t : List ℕ) (j n : ℕ) → j + n ≤ length t
+    → (length (k ∷ be w n) ≡ 1 + w) × (length (take n (drop j t)) ≡ n) × (length (k ∷ be w n ++ take n (drop j t)) ≡ 1 + w + n)
+run-long k w t j n h =
+    let i : length (take n (drop j t)) ≡ n = length-take-le n (drop j t) (rw length-drop (omega arith)) in
+    (coded-long k w n, i, omega (arith, coded-long k w n, length-append (k ∷ be w n) (take n (drop j t))))
+
+-- one stretch of bytes behind another
+pub put-behind : (l l₁ l₂ : List ℕ) (at r n : ℕ) (f g : List ℕ) → Put f l at l₁ r → l₂ ≡ sets l₁ (at + r) g → length g ≡ n → Put (f ++ g) l at l₂ (r + n)
+put-behind l l₁ l₂ at r n f g p e i =
+    record { size = omega (arith, p .size, length-append f g); stored = put-on l l₁ l₂ at (at + r) f g (p .stored) e (omega (arith, p .size)) }
 
 -- What the last arm of a match leaves out
 
@@ -61,56 +69,71 @@ pub no-number : (k j n : ℕ) → Rest (kindsOnto isNumber kinds []) k → numbe
 unfolding numberHead
 no-number k j n h = rw (other isNumber refl k h)
 
+pub no-letters : (k j n : ℕ) (x : List ℕ) → Rest (kindsOnto isLettered kinds []) k → lettersRow (styleOf k) j n x ≡ []
+unfolding lettersRow
+no-letters k j n x h = rw (other isLettered refl k h)
+
 pub no-compound : (k j n b : ℕ) → (n ≡ 0 → ⊥) → Rest (kindsOnto isListOrMap kinds []) k → compoundHead (styleOf k) j n b ≡ []
 unfolding compoundHead
 no-compound k j n b z h = rw (ne-eqb n 0 z, other isListOrMap refl k h)
 
--- Rows that are no more than a head
+-- Rows that are written at once
 
--- a front is all of the head, and there is no text and no element code; the mark has that width
-pub record Sole (s : Style) (kind number body : ℕ) (front : List ℕ) (width : ℕ) : Type 0 where
-  pub ahead : front ≡ head s kind number body
-  pub texts : 0 ≡ letters s number
+-- a front is all of the head and the text, and there is no element code; so many bytes are text, and the mark has that width
+pub record Sole (s : Style) (kind number body : ℕ) (text front : List ℕ) (count width : ℕ) : Type 0 where
+  pub ahead : front ≡ head s kind number body ++ take count text
+  pub texts : count ≡ letters s number
   pub elements : 0 ≡ elementsOf s number
   pub mark : width ≡ markWidth s number
 
 -- that, or no front at all
-abbrev Front : Style → (kind number body : ℕ) → (front : List ℕ) → (width : ℕ) → Type 0
-Front s k n b f w = (f ≡ []) ⊎ Sole s k n b f w
+abbrev Front : Style → (kind number body : ℕ) → (text front : List ℕ) → (count width : ℕ) → Type 0
+Front s k n b x f l w = (f ≡ []) ⊎ Sole s k n b x f l w
 
-pub number-head : (s : Style) (k n b : ℕ) → Front s k n b (numberHead s k n) 0
+pub number-front : (s : Style) (k n b : ℕ) (x : List ℕ) → Front s k n b x (numberHead s k n) 0 0
 unfolding numberHead head letters elementsOf markWidth
-number-head foreign k n b = inl refl
-number-head (numbered s w) k n b = inr (record { ahead = refl; texts = refl; elements = refl; mark = refl })
-number-head (blob w) k n b = inl refl
-number-head (lettered s) k n b = inl refl
-number-head (listed e s) k n b = inl refl
-number-head (mapped s) k n b = inl refl
-number-head (arrayed s) k n b = inl refl
-number-head describing k n b = inl refl
+number-front foreign k n b x = inl refl
+number-front (numbered s w) k n b x = inr (record { ahead = sym (append-nil _); texts = refl; elements = refl; mark = refl })
+number-front (blob w) k n b x = inl refl
+number-front (lettered s) k n b x = inl refl
+number-front (listed e s) k n b x = inl refl
+number-front (mapped s) k n b x = inl refl
+number-front (arrayed s) k n b x = inl refl
+number-front describing k n b x = inl refl
 
-full-compound : (s : Style) (k n b : ℕ) → eqb n 0 ≡ false → Front s k n b (compoundHead s k n b) 3
+full-compound : (s : Style) (k n b : ℕ) (x : List ℕ) → eqb n 0 ≡ false → Front s k n b x (compoundHead s k n b) 0 3
 unfolding compoundHead head letters elementsOf markWidth
-full-compound foreign k n b q = inl (rw q)
-full-compound (numbered s w) k n b q = inl (rw q)
-full-compound (blob w) k n b q = inl (rw q)
-full-compound (lettered s) k n b q = inl (rw q)
-full-compound (listed e s) k n b q = inr (record { ahead = rw q; texts = refl; elements = refl; mark = rw q })
-full-compound (mapped s) k n b q = inr (record { ahead = rw q; texts = refl; elements = refl; mark = rw q })
-full-compound (arrayed s) k n b q = inl (rw q)
-full-compound describing k n b q = inl (rw q)
+full-compound foreign k n b x q = inl (rw q)
+full-compound (numbered s w) k n b x q = inl (rw q)
+full-compound (blob w) k n b x q = inl (rw q)
+full-compound (lettered s) k n b x q = inl (rw q)
+full-compound (listed e s) k n b x q = inr (record { ahead = rw (q, append-nil); texts = refl; elements = refl; mark = rw q })
+full-compound (mapped s) k n b x q = inr (record { ahead = rw (q, append-nil); texts = refl; elements = refl; mark = rw q })
+full-compound (arrayed s) k n b x q = inl (rw q)
+full-compound describing k n b x q = inl (rw q)
 
-pub compound-head : (s : Style) (k n b : ℕ) → Front s k n b (compoundHead s k n b) 3
+pub compound-front : (s : Style) (k n b : ℕ) (x : List ℕ) → Front s k n b x (compoundHead s k n b) 0 3
 unfolding compoundHead
-compound-head s k n b = go (eqb n 0) refl
+compound-front s k n b x = go (eqb n 0) refl
   where
-    go : (t : Bool) → eqb n 0 ≡ t → Front s k n b (compoundHead s k n b) 3
+    go : (t : Bool) → eqb n 0 ≡ t → Front s k n b x (compoundHead s k n b) 0 3
     go true q = inl (rw q)
-    go false q = full-compound s k n b q
+    go false q = full-compound s k n b x q
 
-pub described-head : (k n b : ℕ) → k ≡ 0 → Front (styleOf k) (k % 256) n b (0 ∷ []) 0
+pub letters-front : (s : Style) (k n b : ℕ) (x : List ℕ) → Front s k n b x (lettersRow s k n x) n 0
+unfolding lettersRow head letters elementsOf markWidth
+letters-front foreign k n b x = inl refl
+letters-front (numbered s w) k n b x = inl refl
+letters-front (blob w) k n b x = inl refl
+letters-front (lettered s) k n b x = inr (record { ahead = refl; texts = refl; elements = refl; mark = refl })
+letters-front (listed e s) k n b x = inl refl
+letters-front (mapped s) k n b x = inl refl
+letters-front (arrayed s) k n b x = inl refl
+letters-front describing k n b x = inl refl
+
+pub described-front : (k n b : ℕ) (x : List ℕ) → k ≡ 0 → Front (styleOf k) (k % 256) n b x (0 ∷ []) 0 0
 unfolding styleOf lookup kinds head letters elementsOf markWidth
-described-head k n b e = rw e (inr (record { ahead = refl; texts = refl; elements = refl; mark = refl }))
+described-front k n b x e = rw e (inr (record { ahead = refl; texts = refl; elements = refl; mark = refl }))
 
 -- where nothing was stored, nothing changed
 pub unput : (f l : List ℕ) (at : ℕ) (m : List ℕ) (r : ℕ) → Put f l at m r → r ≤ 0 → m ≡ l
@@ -118,23 +141,35 @@ unput [] l at m r p h = p .stored
 unput (b ∷ f) l at m r p h = absurd (omega (arith, p .size))
 
 -- a front at a cursor where no elements are due, once the output is known to be as it was
-module _ (words text out : List ℕ) (n : ℕ) (c : Cursor) (h : Ready words text out n c) (z : c .elements ≡ 0) (small : (length text < 2 ^ 64) × (length out < 2 ^ 64)) (o : List ℕ) (e : o ≡ out) (f : List ℕ) (w : ℕ)
-    (front : Front (styleOf (kindAt words c)) (kindAt words c % 256) (numberAt words c) (unbe (take w (drop (c .mark) o))) f w) where
-  sole : Sole (styleOf (kindAt words c)) (kindAt words c % 256) (numberAt words c) (unbe (take w (drop (c .mark) o))) f w → Row words text out n c f (length f) 0 0 w 0
+module _ (words text out : List ℕ) (n : ℕ) (c : Cursor) (h : Ready words text out n c) (z : c .elements ≡ 0) (small : (length text < 2 ^ 64) × (length out < 2 ^ 64)) (o : List ℕ) (e : o ≡ out) (f : List ℕ) (l w : ℕ)
+    (front : Front (styleOf (kindAt words c)) (kindAt words c % 256) (numberAt words c) (unbe (take w (drop (c .mark) o))) (drop (c .text) text) f l w) where
+  -- the front is the row's bytes
+  record Whole : Type 0 where
+    pub bytes : ownAt words text out n c ≡ f
+    pub texts : lettersAt words c ≡ l
+    pub mark : markAt words c ≡ w
+    pub behind : dueAt words c ≡ 0
+
+  sole : Sole (styleOf (kindAt words c)) (kindAt words c % 256) (numberAt words c) (unbe (take w (drop (c .mark) o))) (drop (c .text) text) f l w → Whole
+  unfolding elementCode
   sole s =
-      value-row words text out n c h small (styleOf (kindAt words c)) refl 0 (s .texts) w z 0 (unbe (take w (drop (c .mark) o))) (length f) f (s .mark) (s .elements) (rw e) (s .ahead) refl
+      let b = unbe (take w (drop (c .mark) o)) in
+      let g = head (styleOf (kindAt words c)) (kindAt words c % 256) (numberAt words c) b in
+      let r = value-row words text out n c h small (styleOf (kindAt words c)) refl l (s .texts) w z 0 b (length g) g (s .mark) (s .elements) (rw e) refl refl in
+      record { bytes = r .bytes ∙ append-nil (g ++ take l (drop (c .text) text)) ∙ sym (s .ahead); texts = r .texts; mark = r .mark; behind = r .behind }
 
   pub front-fits : c .at + length f ≤ length o
-  front-fits = rw e (⊎-elim (λ i. rw i (omega (arith, h .room))) (λ s. omega (arith, h .room, sole s .size)) front)
+  front-fits = rw e (⊎-elim (λ i. rw i (omega (arith, h .room))) (λ s. omega (arith, h .room, ap length (sole s .bytes))) front)
 
   module _ (after : List ℕ) (r : ℕ) (p : Put f o (c .at) after r) (i : 0 < r) where
-    whole : Row words text out n c f (length f) 0 0 w 0
+    whole : Whole
     whole = ⊎-elim (λ j. absurd (omega (arith, p .size, ap length j))) (λ s. sole s) front
 
-    pub front-behind : length words < 2 ^ 64 → (c .row + 1 < 2 ^ 64) × (c .at + r < 2 ^ 64) × (c .mark + w < 2 ^ 64)
-    front-behind l = (omega (arith, h .row), omega (arith, p .size, front-fits, ap length e), omega (arith, h .marked, h .inside, whole .mark))
+    pub front-behind : length words < 2 ^ 64 → (c .row + 1 < 2 ^ 64) × (c .text + l < 2 ^ 64) × (c .at + r < 2 ^ 64) × (c .mark + w < 2 ^ 64)
+    front-behind j =
+        (omega (arith, h .row), omega (arith, h .texts, whole .texts, small), omega (arith, p .size, front-fits, ap length e, small), omega (arith, h .marked, h .inside, whole .mark, small))
 
-    pub front-stepped : (d : Cursor) → d ≡ behind c r w → Stepped words text out n c after d
-    unfolding elementCode
+    pub front-stepped : (d : Cursor) → d ≡ behind c r l w → Stepped words text out n c after d
     front-stepped d j =
-        rw j (stepped words text out n c f (length f) 0 0 w 0 whole after after after (c .at + length f) (behind c r w) (rw e at (p .stored)) refl refl refl refl (omega arith) (omega (arith, p .size)) refl refl)
+        let v = whole in
+        rw j (record { bytes = rw (v .bytes) (rw e at (p .stored)); row = refl; from = rw (v .texts); place = rw (v .bytes) (ap (λ t. c .at + t) (p .size)); mark = rw (v .mark); elements = sym (v .behind) })

@@ -1,23 +1,23 @@
--- The bytes of a number by its kind, and which rows are open.
+-- The bytes of a number and of letters by their kind, and which rows are open.
 use Prim.Native.Nat.{ℕ, _+_, _%_, _^_, _≤_, _<_}
 use mathlib.Core.Path.{_≡_, refl, sym, _∙_, subst}
-use mathlib.Core.List.{[]}
+use mathlib.Core.List.{List, []}
 use mathlib.Core.Bool.{Bool, true, false, _&&_}
 use native.Mathlib.Nat.{pow-le-pow-right}
 use native.Mathlib.Omega.{arith}
 use borrow.Author.Tests.{lt-ltb, le-ltb, le-leb, lt-leb, eq-eqb, ne-eqb}
 use lib.Dec.{T, eqb, leb, ltb, lit<}
-use lib.ListN.{length}
+use lib.ListN.{length, take}
 use Rattle.standard.specs.Choose.{if}
-use Rattle.standard.specs.Kinds.{Short, never, flag, unsigned, signed, Style, foreign, numbered, blob, lettered, listed, mapped, arrayed, describing, kinds, styleOf, fair}
+use Rattle.standard.specs.Kinds.{Short, never, flag, unsigned, signed, Style, foreign, numbered, blob, lettered, listed, mapped, arrayed, describing, kinds, styleOf, fair, clean}
 use Rattle.standard.specs.Table.{most, ranged}
-use Rattle.standard.specs.Encode.{fitsByte, shortest}
+use Rattle.standard.specs.Encode.{shortEnd, fitsByte, shortest}
 use Rattle.laws.specs.Numbers.{length-be}
 use Rattle.standard.proofs.Lookup.{Rest}
 use Rattle.writer.specs.Heads.{head}
 use Rattle.writer.proofs.Bodies.{head-short}
-use Rattle.writer.specs.Filling.{isNumber}
-use Rattle.writer.specs.Sizing.{holder, opens, numberSize}
+use Rattle.writer.specs.Filling.{isNumber, isLettered}
+use Rattle.writer.specs.Sizing.{holder, opens, numberSize, textSize, lettersSize}
 use Rattle.writer.proofs.Tabled.{kindsOnto, other}
 use Rattle.writer.proofs.Direct.{coded-long, flag-long}
 
@@ -85,7 +85,7 @@ pub fairly : (s : Short) (w c n r : ℕ) → r ≡ if (ltb n (256 ^ w)) (length 
 fairly s w c n r e = rw (and-true (ltb n (256 ^ w))) e
 
 no-number : (s : Style) (k n : ℕ) → isNumber s ≡ false → 0 ≡ numberSize s k n
-unfolding isNumber numberSize
+unfolding numberSize
 no-number foreign k n e = refl
 no-number (numbered s w) k n e = absurd (subst T e tt)
 no-number (blob w) k n e = refl
@@ -97,6 +97,29 @@ no-number describing k n e = refl
 
 pub no-number-kind : (k n : ℕ) → Rest (kindsOnto isNumber kinds []) k → 0 ≡ numberSize (styleOf k) k n
 no-number-kind k n r = no-number (styleOf k) k n (other isNumber refl k r)
+
+-- The bytes of letters
+
+module _ (k n : ℕ) (x : List ℕ) where
+  pub text-long : most < n → 0 ≡ textSize k n x
+  unfolding textSize
+  text-long h = rw (lt-leb n most h)
+
+  pub text-short : length x < n → 0 ≡ textSize k n x
+  unfolding textSize
+  text-short h = rw (lt-leb n (length x) h, and-false (leb n most))
+
+  pub text-bad : clean k (take n x) ≡ false → 0 ≡ textSize k n x
+  unfolding textSize
+  text-bad e = rw (e, and-false (leb n (length x)), and-false (leb n most))
+
+  pub text-good : n ≤ most → n ≤ length x → clean k (take n x) ≡ true → (z : ℕ) → z ≡ if (ltb n shortEnd) 2 5 → z + n ≡ textSize k n x
+  unfolding textSize
+  text-good h i e z f = rw (le-leb n most h, le-leb n (length x) i, e, f)
+
+  pub no-letters-kind : Rest (kindsOnto isLettered kinds []) k → 0 ≡ lettersSize (styleOf k) k n x
+  unfolding lettersSize
+  no-letters-kind r = rw (other isLettered refl k r)
 
 -- Open rows
 

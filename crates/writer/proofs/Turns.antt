@@ -1,19 +1,19 @@
--- The turns of sizing by what the row in front is: a number, an open row, or another one.
+-- The turns of sizing by what the row in front is: a number or letters, an open row, or another one.
 use Prim.Native.Nat.{ℕ, zero, suc, _+_, _*_, _-_, _%_, _^_, _≤_, _<_}
 use mathlib.Core.Path.{_≡_, refl, sym, ap, _∙_, subst}
 use mathlib.Core.List.{List, [], _∷_, _++_}
-use mathlib.Core.Bool.{Bool, true, false, not}
+use mathlib.Core.Bool.{Bool, true, false, not, _&&_}
 use native.Mathlib.Omega.{arith}
 use borrow.Author.Tests.{lt-ltb, ne-eqb}
-use lib.Dec.{T, eqb, eqb→eq, ltb, ltb→lt}
-use lib.ListN.{length, drop, length-append, length-drop}
+use lib.Dec.{T, eqb, eqb→eq, leb, leb→le, ltb, ltb→lt}
+use lib.ListN.{length, take, drop, length-append, length-drop}
 use lib.Seq.{sets}
 use Rattle.standard.specs.Choose.{if}
 use Rattle.standard.specs.Answer.{Answer, got, refuse, at}
 use Rattle.standard.specs.Bytes.{be}
 use Rattle.standard.specs.Tree.{node, Trees, none, more}
-use Rattle.standard.specs.Kinds.{Style, foreign, numbered, blob, lettered, listed, mapped, arrayed, describing, kinds, styleOf, isKind, plain}
-use Rattle.standard.specs.Table.{Spot, any, first, like, allowed, ranged, letters, children, firstIn, next, All, Valid, several, tree}
+use Rattle.standard.specs.Kinds.{Style, foreign, numbered, blob, lettered, listed, mapped, arrayed, describing, kinds, styleOf, isKind, plain, clean}
+use Rattle.standard.specs.Table.{most, Spot, any, first, like, allowed, ranged, letters, children, firstIn, next, All, Valid, several, tree}
 use Rattle.standard.specs.Encode.{shortEnd, payloads}
 use Rattle.laws.specs.Numbers.{length-be}
 use Rattle.standard.specs.Facts.{if-case, T-true, and-left, and-right, clean-nil}
@@ -21,85 +21,135 @@ use Rattle.writer.specs.Heads.{enclosure, head, itemWidth}
 use Rattle.writer.specs.Marks.{markWidth, marks, marks*}
 use Rattle.writer.specs.Filling.{elementsOf}
 use Rattle.writer.specs.Rows.{check}
-use Rattle.writer.specs.Sizing.{total, totalFrom, Marked, headSize, codeWidth, values, sizeIn, Sure, holder, opens, numberSize, alone, takenOf, start, past, Within, Comes, Rowed}
+use Rattle.writer.specs.Sizing.{total, totalFrom, Marked, headSize, codeWidth, values, sizeIn, Sure, holder, opens, numberSize, textSize, lettersSize, alone, takenOf, start, past, Within, Comes, Rowed}
 use Rattle.standard.specs.declared.refusal.Refusal.{Refusal}
 use Rattle.writer.specs.declared.sizing.Sized.{Sized}
 use Rattle.writer.specs.declared.sizing.Sized.the-variants.{Fits, Refused}
-use Rattle.writer.specs.declared.sizing.Taken.the-variants.{Number, Open, Other}
+use Rattle.writer.specs.declared.sizing.Taken.{Taken}
+use Rattle.writer.specs.declared.sizing.Taken.the-variants.{Number, Letters, Open, Other}
 use Rattle.writer.specs.declared.sizing.Extent.{Extent}
 use Rattle.laws.specs.Written.{no-children}
 use Rattle.writer.proofs.Tabled.{allKinds, of-kind}
 use Rattle.writer.proofs.Checks.{check-good}
 use Rattle.writer.proofs.Flat.{plain-leaf}
-use Rattle.writer.proofs.Sums.{mark-small, below, Entered, entered-none, entered-some, sure-next, turn-within, turn-comes, turn-sure, turn-no, comes-on, taken, stands, check-allowed, check-ranged, check-front}
+use Rattle.writer.proofs.Direct.{coded-long}
+use Rattle.writer.proofs.Sums.{mark-small, Entered, entered-none, entered-some, sure-next, turn-within, turn-comes, turn-sure, turn-no, comes-on, taken, stands, check-allowed, check-ranged, check-front}
 
--- Rows without text
+-- A row with y bytes of text in front of x
 
-record Bare (s : Style) (k n : ℕ) : Type 0 where
+pub record Sound (s : Style) (k n : ℕ) (x : List ℕ) (y : ℕ) : Type 0 where
   pub known : isKind s ≡ true
   pub inRange : ranged s k n ≡ true
-  pub silent : letters s n ≡ 0
+  pub worded : letters s n ≡ y
+  pub enough : y ≤ length x
+  pub good : clean k (take y x) ≡ true
   pub uncoded : codeWidth s n ≡ 0
 
+-- one without text
+silent : (s : Style) (k n : ℕ) (x : List ℕ) → isKind s ≡ true → ranged s k n ≡ true → letters s n ≡ 0 → codeWidth s n ≡ 0 → Sound s k n x 0
+silent s k n x a b d e = record { known = a; inRange = b; worded = d; enough = omega arith; good = clean-nil k; uncoded = e }
+
 -- a row in front of words, where a level is left
-record Front (l : ℕ) (w : List ℕ) (k n : ℕ) : Type 0 where
+pub record Front (l : ℕ) (w : List ℕ) (k n : ℕ) : Type 0 where
   pub level : 0 < l
   pub words : w ≡ k ∷ n ∷ drop 2 w
 
-bare-check : (l i k n : ℕ) (w x : List ℕ) → Front l w k n → Bare (styleOf k) k n → check l any i w x ≡ got (k, n)
+sound-check : (l i k n : ℕ) (w x : List ℕ) (y : ℕ) → Front l w k n → Sound (styleOf k) k n x y → check l any i w x ≡ got (k, n)
 unfolding allowed
-bare-check l i k n w x f g = rw (f .words) (check-good any i k n (drop 2 w) x (g .known) refl (g .inRange) l (f .level) (rw (g .silent) (omega arith)) (rw (g .silent) (clean-nil k)))
+sound-check l i k n w x y f g = rw (f .words) (check-good any i k n (drop 2 w) x (g .known) refl (g .inRange) l (f .level) (rw (g .worded) (g .enough)) (rw (g .worded) (g .good)))
 
--- A number
+-- A row without children: a number, or letters
 
-record NumberRow (s : Style) (k n z : ℕ) : Type 0 where
-  pub bare : Bare s k n
+pub record LeafRow (s : Style) (k n : ℕ) (x : List ℕ) (y z : ℕ) : Type 0 where
+  pub sound : Sound s k n x y
   pub barren : children s n ≡ 0
   pub unmarked : markWidth s n ≡ 0
-  pub sized : (b : ℕ) → length (head s (k % 256) n b) ≡ z
+  pub sized : (b : ℕ) → length (head s (k % 256) n b) + y ≡ z
 
-number-row : (s : Style) (k n z : ℕ) → numberSize s k n ≡ z → 0 < z → NumberRow s k n z
+number-row : (s : Style) (k n : ℕ) (x : List ℕ) (z : ℕ) → numberSize s k n ≡ suc z → LeafRow s k n x 0 (suc z)
 unfolding numberSize isKind letters children markWidth codeWidth head
-number-row foreign k n z e h = absurd (omega arith)
-number-row (numbered s w) k n z e h = go (ranged (numbered s w) k n) refl
+number-row foreign k n x z e = absurd (omega arith)
+number-row (numbered s w) k n x z e = go (ranged (numbered s w) k n) refl
   where
-    go : (r : Bool) → ranged (numbered s w) k n ≡ r → NumberRow (numbered s w) k n z
-    go true f = record { bare = record { known = refl; inRange = f; silent = refl; uncoded = refl }; barren = refl; unmarked = refl; sized = λ b. rw f at e }
-    go false f = let y : 0 ≡ z = rw f at e in absurd (omega arith)
-number-row (blob w) k n z e h = absurd (omega arith)
-number-row (lettered s) k n z e h = absurd (omega arith)
-number-row (listed a s) k n z e h = absurd (omega arith)
-number-row (mapped s) k n z e h = absurd (omega arith)
-number-row (arrayed s) k n z e h = absurd (omega arith)
-number-row describing k n z e h = absurd (omega arith)
+    go : (r : Bool) → ranged (numbered s w) k n ≡ r → LeafRow (numbered s w) k n x 0 (suc z)
+    go true f = record { sound = silent _ k n x refl f refl refl; barren = refl; unmarked = refl; sized = λ b. omega (arith, rw f at e) }
+    go false f = let y : 0 ≡ suc z = rw f at e in absurd (omega arith)
+number-row (blob w) k n x z e = absurd (omega arith)
+number-row (lettered s) k n x z e = absurd (omega arith)
+number-row (listed a s) k n x z e = absurd (omega arith)
+number-row (mapped s) k n x z e = absurd (omega arith)
+number-row (arrayed s) k n x z e = absurd (omega arith)
+number-row describing k n x z e = absurd (omega arith)
 
-record NumberFront (l : ℕ) (w : List ℕ) (z : ℕ) : Type 0 where
+-- a good text and its length
+text-row : (s k n : ℕ) (x : List ℕ) (z : ℕ) → textSize k n x ≡ suc z → LeafRow (lettered s) k n x n (suc z)
+unfolding textSize isKind ranged letters children markWidth codeWidth head
+text-row s k n x z e = go (leb n most) refl (leb n (length x)) refl (clean k (take n x)) refl e
+  where
+    long : (t : Bool) → length (if t (s ∷ be 1 n) ((k % 256) ∷ be 4 n)) ≡ if t 2 5
+    long true = coded-long s 1 n
+    long false = coded-long (k % 256) 4 n
+
+    go : (a : Bool) → leb n most ≡ a → (b : Bool) → leb n (length x) ≡ b → (d : Bool) → clean k (take n x) ≡ d → if (a && (b && d)) (if (ltb n shortEnd) 2 5 + n) 0 ≡ suc z → LeafRow (lettered s) k n x n (suc z)
+    go true f true g true h i =
+        record { sound = record { known = refl; inRange = f; worded = refl; enough = leb→le n (length x) (rw g tt); good = h; uncoded = refl }; barren = refl; unmarked = refl; sized = λ b. omega (arith, long (ltb n shortEnd), i) }
+    go true f true g false h i = absurd (omega arith)
+    go true f false g d h i = absurd (omega arith)
+    go false f b g d h i = absurd (omega arith)
+
+letters-row : (s : Style) (k n : ℕ) (x : List ℕ) (z : ℕ) → lettersSize s k n x ≡ suc z → LeafRow s k n x n (suc z)
+unfolding lettersSize
+letters-row foreign k n x z e = absurd (omega arith)
+letters-row (numbered s w) k n x z e = absurd (omega arith)
+letters-row (blob w) k n x z e = absurd (omega arith)
+letters-row (lettered s) k n x z e = text-row s k n x z e
+letters-row (listed a s) k n x z e = absurd (omega arith)
+letters-row (mapped s) k n x z e = absurd (omega arith)
+letters-row (arrayed s) k n x z e = absurd (omega arith)
+letters-row describing k n x z e = absurd (omega arith)
+
+pub record LeafFront (l : ℕ) (w x : List ℕ) (y z : ℕ) : Type 0 where
   pub kind : ℕ
   pub number : ℕ
   pub front : Front l w kind number
-  pub row : NumberRow (styleOf kind) kind number z
+  pub row : LeafRow (styleOf kind) kind number x y z
 
-number-alone : (l k n : ℕ) (w : List ℕ) (z y : ℕ) → numberSize (styleOf k) k n ≡ y → alone y ≡ Number z → NumberFront (suc l) (k ∷ n ∷ w) z
-number-alone l k n w z zero e h = let o : _≡_ {A = ℕ} 0 1 = cc in absurd (omega arith)
-number-alone l k n w z (suc y) e h =
-    let o : suc y ≡ z = cc in
-    record { kind = k; number = n; front = record { level = omega arith; words = refl }; row = number-row (styleOf k) k n z (e ∙ o) (omega arith) }
+-- what a leaf is told by
+abbrev Leafed : (l : ℕ) (w x : List ℕ) → Taken → Type 0
+Leafed l w x (Number z) = LeafFront l w x 0 z
+Leafed l w x (Letters y z) = LeafFront l w x y z
+Leafed l w x (Open k n) = Unit {0}
+Leafed l w x Other = Unit {0}
 
-number-front : (l : ℕ) (w : List ℕ) (z : ℕ) → takenOf l w ≡ Number z → NumberFront l w z
+leafed : (l : ℕ) (w x : List ℕ) → Leafed l w x (takenOf l w x)
 unfolding takenOf
-number-front zero w z e = let o : _≡_ {A = ℕ} 0 1 = cc in absurd (omega arith)
-number-front (suc l) [] z e = let o : _≡_ {A = ℕ} 0 1 = cc in absurd (omega arith)
-number-front (suc l) (k ∷ []) z e = let o : _≡_ {A = ℕ} 0 1 = cc in absurd (omega arith)
-number-front (suc l) (k ∷ n ∷ w) z e = go (opens (styleOf k) k n) e
+leafed zero w x = tt
+leafed (suc l) [] x = tt
+leafed (suc l) (k ∷ []) x = tt
+leafed (suc l) (k ∷ n ∷ w) x = go (opens (styleOf k) k n)
   where
-    go : (b : Bool) → if b (Open k n) (alone (numberSize (styleOf k) k n)) ≡ Number z → NumberFront (suc l) (k ∷ n ∷ w) z
-    go true h = let o : _≡_ {A = ℕ} 0 1 = cc in absurd (omega arith)
-    go false h = number-alone l k n w z (numberSize (styleOf k) k n) refl h
+    front : Front (suc l) (k ∷ n ∷ w) k n
+    front = record { level = omega arith; words = refl }
+
+    lone : (z y : ℕ) → numberSize (styleOf k) k n ≡ z → lettersSize (styleOf k) k n x ≡ y → Leafed (suc l) (k ∷ n ∷ w) x (alone z y n)
+    lone zero zero e f = tt
+    lone zero (suc y) e f = record { kind = k; number = n; front = front; row = letters-row (styleOf k) k n x y f }
+    lone (suc z) y e f = record { kind = k; number = n; front = front; row = number-row (styleOf k) k n x z e }
+
+    go : (b : Bool) → Leafed (suc l) (k ∷ n ∷ w) x (if b (Open k n) (alone (numberSize (styleOf k) k n) (lettersSize (styleOf k) k n x) n))
+    go true = tt
+    go false = lone (numberSize (styleOf k) k n) (lettersSize (styleOf k) k n x) refl refl
+
+pub number-taken : (l : ℕ) (w x : List ℕ) (z : ℕ) → takenOf l w x ≡ Number z → LeafFront l w x 0 z
+number-taken l w x z e = subst (Leafed l w x) e (leafed l w x)
+
+pub letters-taken : (l : ℕ) (w x : List ℕ) (y z : ℕ) → takenOf l w x ≡ Letters y z → LeafFront l w x y z
+letters-taken l w x y z e = subst (Leafed l w x) e (leafed l w x)
 
 -- An open row
 
-record OpenRow (s : Style) (k n : ℕ) : Type 0 where
-  pub bare : Bare s k n
+record OpenRow (s : Style) (k n : ℕ) (x : List ℕ) : Type 0 where
+  pub sound : Sound s k n x 0
   pub full : children s n ≡ n
   pub spot : firstIn s n ≡ any
   pub marked : markWidth s n ≡ if (eqb k 0) 0 3
@@ -135,87 +185,102 @@ not-T false t = refl
 counted : (n : ℕ) → ltb 0 n ≡ true → eqb n 0 ≡ false
 counted n e = ne-eqb n 0 (λ (z : n ≡ 0). let y : 0 < n = ltb→lt 0 n (rw e tt) in omega arith)
 
-open-row : (s : Style) (k n : ℕ) → T (named k s) → opens s k n ≡ true → OpenRow s k n
+open-row : (s : Style) (k n : ℕ) (x : List ℕ) → T (named k s) → opens s k n ≡ true → OpenRow s k n x
 unfolding opens holder named isKind letters children markWidth codeWidth firstIn head
-open-row foreign k n t e = let o : _≡_ {A = ℕ} 0 1 = cc in absurd (omega arith)
-open-row (numbered s w) k n t e = let o : _≡_ {A = ℕ} 0 1 = cc in absurd (omega arith)
-open-row (blob w) k n t e = let o : _≡_ {A = ℕ} 0 1 = cc in absurd (omega arith)
-open-row (lettered s) k n t e = let o : _≡_ {A = ℕ} 0 1 = cc in absurd (omega arith)
-open-row (listed a s) k n t e =
+open-row foreign k n x t e = let o : _≡_ {A = ℕ} 0 1 = cc in absurd (omega arith)
+open-row (numbered s w) k n x t e = let o : _≡_ {A = ℕ} 0 1 = cc in absurd (omega arith)
+open-row (blob w) k n x t e = let o : _≡_ {A = ℕ} 0 1 = cc in absurd (omega arith)
+open-row (lettered s) k n x t e = let o : _≡_ {A = ℕ} 0 1 = cc in absurd (omega arith)
+open-row (listed a s) k n x t e =
     let z = T-true _ (and-left (ltb 0 n) (ranged (listed a s) k n) (rw e tt)) in
     let r = T-true _ (and-right (ltb 0 n) (ranged (listed a s) k n) (rw e tt)) in
-    record { bare = record { known = refl; inRange = r; silent = refl; uncoded = refl }; full = refl; spot = refl; marked = rw (not-T (eqb k 0) t, counted n z); headed = λ b. rw (not-T (eqb k 0) t, counted n z) (enclosed-width s (k % 256) n b) }
-open-row (mapped s) k n t e =
+    record { sound = silent _ k n x refl r refl refl; full = refl; spot = refl; marked = rw (not-T (eqb k 0) t, counted n z); headed = λ b. rw (not-T (eqb k 0) t, counted n z) (enclosed-width s (k % 256) n b) }
+open-row (mapped s) k n x t e =
     let z = T-true _ (and-left (ltb 0 n) (ranged (mapped s) k n) (rw e tt)) in
     let r = T-true _ (and-right (ltb 0 n) (ranged (mapped s) k n) (rw e tt)) in
-    record { bare = record { known = refl; inRange = r; silent = refl; uncoded = refl }; full = refl; spot = refl; marked = rw (not-T (eqb k 0) t, counted n z); headed = λ b. rw (not-T (eqb k 0) t) (enclosed-width s (k % 256) n b) }
-open-row (arrayed s) k n t e = let o : _≡_ {A = ℕ} 0 1 = cc in absurd (omega arith)
-open-row describing k n t e =
+    record { sound = silent _ k n x refl r refl refl; full = refl; spot = refl; marked = rw (not-T (eqb k 0) t, counted n z); headed = λ b. rw (not-T (eqb k 0) t) (enclosed-width s (k % 256) n b) }
+open-row (arrayed s) k n x t e = let o : _≡_ {A = ℕ} 0 1 = cc in absurd (omega arith)
+open-row describing k n x t e =
     let r = T-true _ (and-right (ltb 0 n) (ranged describing k n) (rw e tt)) in
-    record { bare = record { known = refl; inRange = r; silent = refl; uncoded = refl }; full = refl; spot = refl; marked = rw (T-true (eqb k 0) t); headed = λ b. rw (T-true (eqb k 0) t) }
+    record { sound = silent _ k n x refl r refl refl; full = refl; spot = refl; marked = rw (T-true (eqb k 0) t); headed = λ b. rw (T-true (eqb k 0) t) }
 
-record OpenFront (l : ℕ) (w : List ℕ) (k n : ℕ) : Type 0 where
+record OpenFront (l : ℕ) (w x : List ℕ) (k n : ℕ) : Type 0 where
   pub front : Front l w k n
-  pub row : OpenRow (styleOf k) k n
+  pub row : OpenRow (styleOf k) k n x
 
-open-front : (l : ℕ) (w : List ℕ) (k n : ℕ) → takenOf l w ≡ Open k n → OpenFront l w k n
+open-front : (l : ℕ) (w x : List ℕ) (k n : ℕ) → takenOf l w x ≡ Open k n → OpenFront l w x k n
 unfolding takenOf
-open-front zero w k n e = let o : _≡_ {A = ℕ} 0 1 = cc in absurd (omega arith)
-open-front (suc l) [] k n e = let o : _≡_ {A = ℕ} 0 1 = cc in absurd (omega arith)
-open-front (suc l) (a ∷ []) k n e = let o : _≡_ {A = ℕ} 0 1 = cc in absurd (omega arith)
-open-front (suc l) (a ∷ m ∷ w) k n e = go (opens (styleOf a) a m) refl e
+open-front zero w x k n e = let o : _≡_ {A = ℕ} 0 1 = cc in absurd (omega arith)
+open-front (suc l) [] x k n e = let o : _≡_ {A = ℕ} 0 1 = cc in absurd (omega arith)
+open-front (suc l) (a ∷ []) x k n e = let o : _≡_ {A = ℕ} 0 1 = cc in absurd (omega arith)
+open-front (suc l) (a ∷ m ∷ w) x k n e = go (opens (styleOf a) a m) refl e
   where
-    lone : (y : ℕ) → alone y ≡ Open k n → OpenFront (suc l) (a ∷ m ∷ w) k n
-    lone zero h = let o : _≡_ {A = ℕ} 0 1 = cc in absurd (omega arith)
-    lone (suc y) h = let o : _≡_ {A = ℕ} 0 1 = cc in absurd (omega arith)
+    lone : (z y : ℕ) → alone z y m ≡ Open k n → OpenFront (suc l) (a ∷ m ∷ w) x k n
+    lone zero zero h = let o : _≡_ {A = ℕ} 0 1 = cc in absurd (omega arith)
+    lone zero (suc y) h = let o : _≡_ {A = ℕ} 0 1 = cc in absurd (omega arith)
+    lone (suc z) y h = let o : _≡_ {A = ℕ} 0 1 = cc in absurd (omega arith)
 
-    go : (b : Bool) → opens (styleOf a) a m ≡ b → if b (Open a m) (alone (numberSize (styleOf a) a m)) ≡ Open k n → OpenFront (suc l) (a ∷ m ∷ w) k n
+    go : (b : Bool) → opens (styleOf a) a m ≡ b → if b (Open a m) (alone (numberSize (styleOf a) a m) (lettersSize (styleOf a) a m x) m) ≡ Open k n → OpenFront (suc l) (a ∷ m ∷ w) x k n
     go true g h =
         let i : a ≡ k = cc in
         let j : m ≡ n = cc in
-        record { front = record { level = omega arith; words = rw (i, j) }; row = open-row (styleOf k) k n (is-named k) (rw (i, j) at g) }
-    go false g h = lone (numberSize (styleOf a) a m) h
+        record { front = record { level = omega arith; words = rw (i, j) }; row = open-row (styleOf k) k n x (is-named k) (rw (i, j) at g) }
+    go false g h = lone (numberSize (styleOf a) a m) (lettersSize (styleOf a) a m x) h
 
 -- What is taken, by what was found of the row
 
-pub taken-deep : (l : ℕ) (w : List ℕ) → l ≡ 0 → Other ≡ takenOf l w
+pub taken-deep : (l : ℕ) (w x : List ℕ) → l ≡ 0 → Other ≡ takenOf l w x
 unfolding takenOf
-taken-deep l w e = rw e
+taken-deep l w x e = rw e
 
-pub taken-missing : (l : ℕ) (w : List ℕ) → length w < 2 → Other ≡ takenOf l w
+pub taken-missing : (l : ℕ) (w x : List ℕ) → length w < 2 → Other ≡ takenOf l w x
 unfolding takenOf
-taken-missing zero w h = refl
-taken-missing (suc l) [] h = refl
-taken-missing (suc l) (k ∷ []) h = refl
-taken-missing (suc l) (k ∷ n ∷ w) h = absurd (omega arith)
+taken-missing zero w x h = refl
+taken-missing (suc l) [] x h = refl
+taken-missing (suc l) (k ∷ []) x h = refl
+taken-missing (suc l) (k ∷ n ∷ w) x h = absurd (omega arith)
 
-module _ (l k n : ℕ) (w : List ℕ) (h : 0 < l) (b : Bool) (e : b ≡ opens (styleOf k) k n) where
-  pub taken-open : b ≡ true → Open k n ≡ takenOf l (k ∷ n ∷ w)
+module _ (l k n : ℕ) (w x : List ℕ) (h : 0 < l) (b : Bool) (e : b ≡ opens (styleOf k) k n) where
+  pub taken-open : b ≡ true → Open k n ≡ takenOf l (k ∷ n ∷ w) x
   unfolding takenOf
   taken-open f = go l h
     where
-      go : (l : ℕ) → 0 < l → Open k n ≡ takenOf l (k ∷ n ∷ w)
+      go : (l : ℕ) → 0 < l → Open k n ≡ takenOf l (k ∷ n ∷ w) x
       go zero h = absurd (omega arith)
       go (suc l) h = rw (← e, f)
 
   module _ (f : b ≡ false) (z : ℕ) (i : z ≡ numberSize (styleOf k) k n) where
-    taken-alone : alone z ≡ takenOf l (k ∷ n ∷ w)
+    taken-alone : (y : ℕ) → y ≡ lettersSize (styleOf k) k n x → alone z y n ≡ takenOf l (k ∷ n ∷ w) x
     unfolding takenOf
-    taken-alone = go l h
+    taken-alone y j = go l h
       where
-        go : (l : ℕ) → 0 < l → alone z ≡ takenOf l (k ∷ n ∷ w)
+        go : (l : ℕ) → 0 < l → alone z y n ≡ takenOf l (k ∷ n ∷ w) x
         go zero h = absurd (omega arith)
-        go (suc l) h = rw (← e, f, i)
+        go (suc l) h = rw (← e, f, i, j)
 
-    pub taken-other : z ≡ 0 → Other ≡ takenOf l (k ∷ n ∷ w)
-    taken-other j = rw j at taken-alone
-
-    pub taken-number : ¬ (z ≡ 0) → Number z ≡ takenOf l (k ∷ n ∷ w)
-    taken-number j = go z j ∙ taken-alone
+    pub taken-number : 0 < z → Number z ≡ takenOf l (k ∷ n ∷ w) x
+    taken-number j = go z j ∙ taken-alone (lettersSize (styleOf k) k n x) refl
       where
-        go : (y : ℕ) → ¬ (y ≡ 0) → Number y ≡ alone y
-        go zero j = absurd (j refl)
-        go (suc y) j = refl
+        go : (z : ℕ) → 0 < z → Number z ≡ alone z (lettersSize (styleOf k) k n x) n
+        go zero j = absurd (omega arith)
+        go (suc z) j = refl
+
+    module _ (o : z ≤ 0) (y : ℕ) (j : y ≡ lettersSize (styleOf k) k n x) where
+      pub taken-letters : 0 < y → Letters n y ≡ takenOf l (k ∷ n ∷ w) x
+      taken-letters p = go z y o p ∙ taken-alone y j
+        where
+          go : (z y : ℕ) → z ≤ 0 → 0 < y → Letters n y ≡ alone z y n
+          go zero zero o p = absurd (omega arith)
+          go zero (suc y) o p = refl
+          go (suc z) y o p = absurd (omega arith)
+
+      pub taken-other : y ≤ 0 → Other ≡ takenOf l (k ∷ n ∷ w) x
+      taken-other p = go z y o p ∙ taken-alone y j
+        where
+          go : (z y : ℕ) → z ≤ 0 → y ≤ 0 → Other ≡ alone z y n
+          go zero zero o p = refl
+          go zero (suc y) o p = absurd (omega arith)
+          go (suc z) y o p = absurd (omega arith)
 
 -- Turns
 
@@ -228,52 +293,57 @@ unfolding be
 no-mark b m width body e = rw e
 
 module _ (w x : List ℕ) (l : ℕ) (o : Extent) (n : ℕ) (b : List ℕ) (g : Within w x o) (h : 0 < n) where
-  -- a number of z bytes
-  module _ (z : ℕ) (t : takenOf l (drop (2 * (o .row)) w) ≡ Number z) where
-    number-at : NumberFront l (drop (2 * (o .row)) w) z
-    number-at = number-front l (drop (2 * (o .row)) w) z t
+  -- a leaf of z bytes, y of them text
+  module _ (y z : ℕ) (leaf-at : LeafFront l (drop (2 * (o .row)) w) (drop (o .text) x) y z) where
+    leaf-entered : Entered w x l (o .row) (o .text) (leaf-at .kind) (leaf-at .number) (o .mark) b
+        (Fits (record { row = o .row + 1; text = o .text + letters (styleOf (leaf-at .kind)) (leaf-at .number); size = 0; mark = o .mark + markWidth (styleOf (leaf-at .kind)) (leaf-at .number) })) b
+    leaf-entered = entered-none w x l (o .row) (o .text) (leaf-at .kind) (leaf-at .number) (o .mark) b (styleOf (leaf-at .kind)) _ _ _ refl refl refl refl (omega (arith, leaf-at .row .barren))
 
-    number-entered : Entered w x l (o .row) (o .text) (number-at .kind) (number-at .number) (o .mark) b
-        (Fits (record { row = o .row + 1; text = o .text + letters (styleOf (number-at .kind)) (number-at .number); size = 0; mark = o .mark + markWidth (styleOf (number-at .kind)) (number-at .number) })) b
-    number-entered = entered-none w x l (o .row) (o .text) (number-at .kind) (number-at .number) (o .mark) b (styleOf (number-at .kind)) _ _ _ refl refl refl refl (omega (arith, number-at .row .barren))
+    leaf-checked : check l any (o .row) (drop (2 * (o .row)) w) (drop (o .text) x) ≡ got (leaf-at .kind, leaf-at .number)
+    leaf-checked = sound-check l (o .row) (leaf-at .kind) (leaf-at .number) (drop (2 * (o .row)) w) (drop (o .text) x) y (leaf-at .front) (leaf-at .row .sound)
 
-    number-checked : check l any (o .row) (drop (2 * (o .row)) w) (drop (o .text) x) ≡ got (number-at .kind, number-at .number)
-    number-checked = bare-check l (o .row) (number-at .kind) (number-at .number) (drop (2 * (o .row)) w) (drop (o .text) x) (number-at .front) (number-at .row .bare)
-
-    number-adds : (P : Extent → Type 0) → P (record {
+    leaf-adds : (P : Extent → Type 0) → P (record {
       row = o .row + 1;
-      text = o .text + letters (styleOf (number-at .kind)) (number-at .number);
-      size = o .size + (headSize any (styleOf (number-at .kind)) (number-at .kind) (number-at .number) (codeWidth (styleOf (number-at .kind)) (number-at .number) + 0) + letters (styleOf (number-at .kind)) (number-at .number) + (codeWidth (styleOf (number-at .kind)) (number-at .number) + 0));
-      mark = o .mark + markWidth (styleOf (number-at .kind)) (number-at .number);
-    }) → P (past o 0 z)
+      text = o .text + letters (styleOf (leaf-at .kind)) (leaf-at .number);
+      size = o .size + (headSize any (styleOf (leaf-at .kind)) (leaf-at .kind) (leaf-at .number) (codeWidth (styleOf (leaf-at .kind)) (leaf-at .number) + 0) + letters (styleOf (leaf-at .kind)) (leaf-at .number) + (codeWidth (styleOf (leaf-at .kind)) (leaf-at .number) + 0));
+      mark = o .mark + markWidth (styleOf (leaf-at .kind)) (leaf-at .number);
+    }) → P (past o y z)
     unfolding headSize
-    number-adds P =
-        let r = number-at .row in
-        moved P refl (omega (arith, r .bare .silent)) (omega (arith, r .bare .silent, r .bare .uncoded, r .sized (codeWidth (styleOf (number-at .kind)) (number-at .number) + 0))) (omega (arith, r .unmarked))
+    leaf-adds P =
+        let r = leaf-at .row in
+        moved P refl (omega (arith, r .sound .worded)) (omega (arith, r .sound .worded, r .sound .uncoded, r .sized (codeWidth (styleOf (leaf-at .kind)) (leaf-at .number) + 0))) (omega (arith, r .unmarked))
 
-    pub number-within : Within w x (past o 0 z)
-    number-within = number-adds (Within w x) (turn-within w x l any o n b g tt h (number-at .kind) (number-at .number) number-checked _ b number-entered _ refl)
+    leaf-within : Within w x (past o y z)
+    leaf-within = leaf-adds (Within w x) (turn-within w x l any o n b g tt h (leaf-at .kind) (leaf-at .number) leaf-checked _ b leaf-entered _ refl)
 
-    pub number-comes : Comes w x l any o n b any (past o 0 z) (n - 1) b
+    leaf-comes : Comes w x l any o n b any (past o y z) (n - 1) b
     unfolding next
-    number-comes =
-        number-adds (λ e. Comes w x l any o n b any e (n - 1) b)
-        (turn-comes w x l any o n b g tt h (number-at .kind) (number-at .number) number-checked _ b number-entered _ refl b (λ y. no-mark b (o .mark) _ _ (number-at .row .unmarked)) refl)
+    leaf-comes =
+        leaf-adds (λ e. Comes w x l any o n b any e (n - 1) b)
+        (turn-comes w x l any o n b g tt h (leaf-at .kind) (leaf-at .number) leaf-checked _ b leaf-entered _ refl b (λ _. no-mark b (o .mark) _ _ (leaf-at .row .unmarked)) refl)
+
+    pub leaf-sums : length w * 8 < 2 ^ 63 → length x * 1 < 2 ^ 63 → (o .row + 1 < 2 ^ 64) × (o .text + y < 2 ^ 64) × (o .size + z < 2 ^ 64)
+    leaf-sums p q =
+        let v = leaf-within in
+        (omega (arith, v .rows), omega (arith, v .letters), omega (arith, v .small, v .rows, v .letters))
+
+    pub leaf-turn : {o₀ : Extent} {n₀ : ℕ} {b₀ : List ℕ} → Comes w x l any o₀ n₀ b₀ any o n b → (d : Extent) → d ≡ past o y z → Within w x d × Comes w x l any o₀ n₀ b₀ any d (n - 1) b
+    leaf-turn p d e = rw e (leaf-within, comes-on p leaf-comes)
 
   -- an open row of kind k with m children, of which y is found
-  module _ (k m : ℕ) (t : takenOf l (drop (2 * (o .row)) w) ≡ Open k m) (width : ℕ) (i : width ≡ if (eqb k 0) 0 3) (y : Sized) (b₁ : List ℕ)
+  module _ (k m : ℕ) (t : takenOf l (drop (2 * (o .row)) w) (drop (o .text) x) ≡ Open k m) (width : ℕ) (i : width ≡ if (eqb k 0) 0 3) (y : Sized) (b₁ : List ℕ)
       (sums : y ≡ totalFrom any (record { row = o .row + 1; text = o .text; size = 0; mark = o .mark + width }) (values w x (l - 1) any m (o .row + 1) (o .text)))
       (marks : Marked b (o .mark + width) b₁ (values w x (l - 1) any m (o .row + 1) (o .text))) (kept : length b₁ ≡ length b) where
-    open-at : OpenFront l (drop (2 * (o .row)) w) k m
-    open-at = open-front l (drop (2 * (o .row)) w) k m t
+    open-at : OpenFront l (drop (2 * (o .row)) w) (drop (o .text) x) k m
+    open-at = open-front l (drop (2 * (o .row)) w) (drop (o .text) x) k m t
 
     open-entered : Entered w x l (o .row) (o .text) k m (o .mark) b y b₁
     open-entered =
         let j : o .text + 0 ≡ o .text = omega arith in
-        entered-some w x l (o .row) (o .text) k m (o .mark) b (styleOf k) 0 m width any y b₁ refl (sym (open-at .row .bare .silent)) (sym (open-at .row .full)) (i ∙ sym (open-at .row .marked)) (sym (open-at .row .spot)) (rw j sums) (rw j marks) kept
+        entered-some w x l (o .row) (o .text) k m (o .mark) b (styleOf k) 0 m width any y b₁ refl (sym (open-at .row .sound .worded)) (sym (open-at .row .full)) (i ∙ sym (open-at .row .marked)) (sym (open-at .row .spot)) (rw j sums) (rw j marks) kept
 
     open-checked : check l any (o .row) (drop (2 * (o .row)) w) (drop (o .text) x) ≡ got (k, m)
-    open-checked = bare-check l (o .row) k m (drop (2 * (o .row)) w) (drop (o .text) x) (open-at .front) (open-at .row .bare)
+    open-checked = sound-check l (o .row) k m (drop (2 * (o .row)) w) (drop (o .text) x) 0 (open-at .front) (open-at .row .sound)
 
     pub open-no : (f : Refusal) → y ≡ Refused f → tree l any (o .row) (drop (2 * (o .row)) w) (drop (o .text) x) ≡ refuse (f .number) (at (f .place))
     open-no f e = turn-no w x l any o n b g tt h k m open-checked y b₁ open-entered f e
@@ -285,8 +355,8 @@ module _ (w x : List ℕ) (l : ℕ) (o : Extent) (n : ℕ) (b : List ℕ) (g : W
       unfolding headSize
       open-adds P =
           let r = open-at .row in
-          let a : codeWidth (styleOf k) m + e .size ≡ e .size = omega (arith, r .bare .uncoded) in
-          moved P refl refl (rw a (omega (arith, r .bare .silent, r .headed (e .size), j))) refl
+          let a : codeWidth (styleOf k) m + e .size ≡ e .size = omega (arith, r .sound .uncoded) in
+          moved P refl refl (rw a (omega (arith, r .sound .worded, r .headed (e .size), j))) refl
 
       pub open-within : Within w x (record { row = e .row; text = e .text; size = o .size + (top + e .size); mark = e .mark })
       open-within = open-adds (Within w x) (turn-within w x l any o n b g tt h k m open-checked y b₁ open-entered e fits)
@@ -295,15 +365,15 @@ module _ (w x : List ℕ) (l : ℕ) (o : Extent) (n : ℕ) (b : List ℕ) (g : W
           → Comes w x l any o n b any (record { row = e .row; text = e .text; size = o .size + (top + e .size); mark = e .mark }) (n - 1) b₂
       unfolding next
       open-comes b₂ put same =
-          let a : codeWidth (styleOf k) m + e .size ≡ e .size = omega (arith, open-at .row .bare .uncoded) in
+          let a : codeWidth (styleOf k) m + e .size ≡ e .size = omega (arith, open-at .row .sound .uncoded) in
           open-adds (λ d. Comes w x l any o n b any d (n - 1) b₂)
           (turn-comes w x l any o n b g tt h k m open-checked y b₁ open-entered e fits b₂ (rw (a, ← i ∙ sym (open-at .row .marked)) put) same)
 
 -- the place of an open row's first child
-pub open-first : (w x : List ℕ) (l : ℕ) (o : Extent) (k m width : ℕ) → Within w x o → takenOf l (drop (2 * (o .row)) w) ≡ Open k m → width ≡ if (eqb k 0) 0 3
+pub open-first : (w x : List ℕ) (l : ℕ) (o : Extent) (k m width : ℕ) → Within w x o → takenOf l (drop (2 * (o .row)) w) (drop (o .text) x) ≡ Open k m → width ≡ if (eqb k 0) 0 3
     → Within w x (record { row = o .row + 1; text = o .text; size = 0; mark = o .mark + width }) × (0 < l)
 open-first w x l o k m width g t i =
-    let f = open-front l (drop (2 * (o .row)) w) k m t .front in
+    let f = open-front l (drop (2 * (o .row)) w) (drop (o .text) x) k m t .front in
     let a : width ≤ 3 = rw i (if-case (λ (z : ℕ). z ≤ 3) (eqb k 0) 0 3 (λ y. omega arith) (λ y. omega arith)) in
     (record { rows = omega (arith, ap length (f .words), length-drop (2 * (o .row)) w); letters = g .letters; marked = omega (arith, g .marked); small = omega arith }, f .level)
 
@@ -416,12 +486,12 @@ closed-row (arrayed s) k n e r = refl
 closed-row describing k zero e r = refl
 closed-row describing k (suc n) e r = absurd (clash (rw (lt-ltb 0 (suc n) (omega arith), r) at e))
 
-other-closed : (l : ℕ) (w v : List ℕ) (k n : ℕ) → w ≡ k ∷ n ∷ v → 0 < l → takenOf l w ≡ Other → opens (styleOf k) k n ≡ false
+other-closed : (l : ℕ) (w v x : List ℕ) (k n : ℕ) → w ≡ k ∷ n ∷ v → 0 < l → takenOf l w x ≡ Other → opens (styleOf k) k n ≡ false
 unfolding takenOf
-other-closed zero w v k n e h t = absurd (omega arith)
-other-closed (suc l) w v k n e h t = go (opens (styleOf k) k n) (rw e at t)
+other-closed zero w v x k n e h t = absurd (omega arith)
+other-closed (suc l) w v x k n e h t = go (opens (styleOf k) k n) (rw e at t)
   where
-    go : (b : Bool) → if b (Open k n) (alone (numberSize (styleOf k) k n)) ≡ Other → b ≡ false
+    go : (b : Bool) → if b (Open k n) (alone (numberSize (styleOf k) k n) (lettersSize (styleOf k) k n x) n) ≡ Other → b ≡ false
     go true f = let o : _≡_ {A = ℕ} 0 1 = cc in absurd (omega arith)
     go false f = refl
 
@@ -466,13 +536,13 @@ other-first w x l o k m s le mw g q f fl fm =
     (record { rows = omega (arith, e .row); letters = omega (arith, e .letter); marked = omega (arith, g .marked, mark-small s m); small = omega arith }, e .level)
 
 module _ (w x : List ℕ) (l : ℕ) (o : Extent) (b : List ℕ) (g : Within w x o) (k m : ℕ) (q : check l any (o .row) (drop (2 * (o .row)) w) (drop (o .text) x) ≡ got (k, m))
-    (t : takenOf l (drop (2 * (o .row)) w) ≡ Other) (s : Style) (f : s ≡ styleOf k) (le it mw : ℕ) (fl : le ≡ letters s m) (fi : it ≡ elementsOf s m) (fm : mw ≡ markWidth s m) (z : Sized)
+    (t : takenOf l (drop (2 * (o .row)) w) (drop (o .text) x) ≡ Other) (s : Style) (f : s ≡ styleOf k) (le it mw : ℕ) (fl : le ≡ letters s m) (fi : it ≡ elementsOf s m) (fm : mw ≡ markWidth s m) (z : Sized)
     (sums : z ≡ totalFrom first (record { row = o .row + 1; text = o .text + le; size = 0; mark = o .mark + mw }) (values w x (l - 1) first it (o .row + 1) (o .text + le))) where
   other-children : children (styleOf k) m ≡ elementsOf (styleOf k) m
   other-children =
       let e = stands w x l any (o .row) (o .text) k m (g .rows) (g .letters) q in
       closed-row (styleOf k) k m
-      (other-closed l (drop (2 * (o .row)) w) (drop 2 (drop (2 * (o .row)) w)) k m (check-front l any (o .row) (drop (2 * (o .row)) w) (drop (o .text) x) k m q) (e .level) t)
+      (other-closed l (drop (2 * (o .row)) w) (drop 2 (drop (2 * (o .row)) w)) (drop (o .text) x) k m (check-front l any (o .row) (drop (2 * (o .row)) w) (drop (o .text) x) k m q) (e .level) t)
       (T-true _ (check-ranged l any (o .row) (drop (2 * (o .row)) w) (drop (o .text) x) k m q))
 
   other-entered : Entered w x l (o .row) (o .text) k m (o .mark) b z b

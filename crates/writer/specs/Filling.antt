@@ -4,13 +4,14 @@ use Prim.Native.Nat.{ℕ, zero, suc, _+_, _*_, _%_, _≤_}
 use mathlib.Core.Path.{_≡_}
 use mathlib.Core.List.{List, [], _∷_, _++_}
 use mathlib.Core.Bool.{Bool, true, false}
-use lib.Dec.{eqb}
+use lib.Dec.{eqb, ltb}
 use lib.ListN.{length, take, drop, getD}
 use lib.Seq.{sets}
 use Rattle.standard.specs.Choose.{if}
 use Rattle.standard.specs.Bytes.{be, unbe}
 use Rattle.standard.specs.Kinds.{Style, foreign, numbered, blob, lettered, listed, mapped, arrayed, describing, styleOf}
 use Rattle.standard.specs.Table.{letters}
+use Rattle.standard.specs.Encode.{shortEnd}
 use Rattle.writer.specs.Heads.{head, itemWidth}
 use Rattle.writer.specs.Marks.{markWidth}
 use Rattle.writer.specs.declared.filling.Cursor.{Cursor}
@@ -64,8 +65,8 @@ lettersIn [] = 0
 lettersIn (k ∷ []) = 0
 lettersIn (k ∷ n ∷ w) = letters (styleOf k) n + lettersIn w
 
--- Rows that are written by their kind at once, without a style: `number-head` and `compound-head` of proofs/Direct.antt say that their
--- head is all of them
+-- Rows that are written by their kind at once, without a style: `number-front`, `compound-front` and `letters-front` of
+-- proofs/Direct.antt say that this is all of them
 
 abbrev pub isNumber : Style → Bool
 isNumber foreign = false
@@ -76,6 +77,16 @@ isNumber (listed e s) = false
 isNumber (mapped s) = false
 isNumber (arrayed s) = false
 isNumber describing = false
+
+abbrev pub isLettered : Style → Bool
+isLettered foreign = false
+isLettered (numbered s w) = false
+isLettered (blob w) = false
+isLettered (lettered s) = true
+isLettered (listed e s) = false
+isLettered (mapped s) = false
+isLettered (arrayed s) = false
+isLettered describing = false
 
 abbrev pub isListOrMap : Style → Bool
 isListOrMap foreign = false
@@ -95,6 +106,14 @@ numberHead s k n = if (isNumber s) (head s k n 0) []
 unfoldable pub compoundHead : Style → (kind count body : ℕ) → List ℕ
 compoundHead s k n b = if (eqb n 0) [] (if (isListOrMap s) (head s k n b) [])
 
+-- n bytes of text behind their number
+unfoldable pub spelled : (short wide number : ℕ) → (text : List ℕ) → List ℕ
+spelled s k n x = if (ltb n shortEnd) (s ∷ be 1 n) (k ∷ be 4 n) ++ take n x
+
+-- letters behind their number; nothing of other rows
+unfoldable pub lettersRow : Style → (kind number : ℕ) → (text : List ℕ) → List ℕ
+lettersRow s k n x = if (isLettered s) (head s k n 0 ++ take n x) []
+
 -- bytes are stored at a place, and r is how many
 pub record Put (bytes before : List ℕ) (at : ℕ) (after : List ℕ) (r : ℕ) : Type 0 where
   pub size : r ≡ length bytes
@@ -112,9 +131,9 @@ pub record Fillable (words text out : List ℕ) (n mark : ℕ) : Type 0 where
 abbrev pub fresh : (mark : ℕ) → Cursor
 fresh m = record { row = 0; text = 0; at = 0; mark = m; elements = 0 }
 
--- behind a row of so many bytes, without text, with a mark of that width
-abbrev pub behind : Cursor → (size width : ℕ) → Cursor
-behind c s w = record { row = c .row + 1; text = c .text; at = c .at + s; mark = c .mark + w; elements = 0 }
+-- behind a row of so many bytes, so many of them text, with a mark of that width
+abbrev pub behind : Cursor → (size letters width : ℕ) → Cursor
+behind c s l w = record { row = c .row + 1; text = c .text + l; at = c .at + s; mark = c .mark + w; elements = 0 }
 
 -- of the row at a cursor: its kind and number, its bytes of text, the width of its mark, the elements due behind it, and its bytes
 abbrev pub kindAt : (words : List ℕ) → Cursor → ℕ

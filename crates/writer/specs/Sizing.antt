@@ -3,20 +3,21 @@ use Prim.Native.Nat.{ℕ, zero, suc, _+_, _*_, _-_, _%_, _^_, _≤_, _<_}
 use mathlib.Core.Path.{_≡_}
 use mathlib.Core.List.{List, [], _∷_}
 use mathlib.Core.Bool.{Bool, true, false, _&&_}
-use lib.Dec.{T, eqb, ltb}
-use lib.ListN.{length, drop}
+use lib.Dec.{T, eqb, leb, ltb}
+use lib.ListN.{length, take, drop}
 use lib.Seq.{sets}
 use Rattle.standard.specs.Choose.{if}
 use Rattle.standard.specs.Answer.{Answer, got, refuse, at}
 use Rattle.standard.specs.Tree.{Trees, tall*, text*}
-use Rattle.standard.specs.Kinds.{Style, foreign, numbered, blob, lettered, listed, mapped, arrayed, describing, styleOf, plain}
-use Rattle.standard.specs.Table.{Spot, any, first, like, ranged, several, tree}
-use Rattle.standard.specs.Encode.{shortest, encode*, payloads}
+use Rattle.standard.specs.Kinds.{Style, foreign, numbered, blob, lettered, listed, mapped, arrayed, describing, styleOf, plain, clean}
+use Rattle.standard.specs.Table.{most, Spot, any, first, like, ranged, several, tree}
+use Rattle.standard.specs.Encode.{shortEnd, shortest, encode*, payloads}
 use Rattle.writer.specs.Heads.{head, itemWidth}
 use Rattle.writer.specs.Marks.{marks*}
+use Rattle.writer.specs.Filling.{isLettered}
 use Rattle.writer.specs.declared.sizing.Extent.{Extent}
 use Rattle.writer.specs.declared.sizing.Taken.{Taken}
-use Rattle.writer.specs.declared.sizing.Taken.the-variants.{Number, Open, Other}
+use Rattle.writer.specs.declared.sizing.Taken.the-variants.{Number, Letters, Open, Other}
 use Rattle.writer.specs.declared.sizing.Sized.{Sized}
 use Rattle.writer.specs.declared.sizing.Sized.the-variants.{Fits, Refused}
 
@@ -94,19 +95,29 @@ numberSize (mapped s) k n = 0
 numberSize (arrayed s) k n = 0
 numberSize describing k n = 0
 
+-- the bytes of a text of kind k and length n with its code and its length; 0 where it is not all there, or not good
+unfoldable pub textSize : (kind number : ℕ) → (text : List ℕ) → ℕ
+textSize k n x = if (leb n most && (leb n (length x) && clean k (take n x))) (if (ltb n shortEnd) 2 5 + n) 0
+
+-- the bytes of letters that stand in no array; 0 where a row holds none
+unfoldable pub lettersSize : Style → (kind number : ℕ) → (text : List ℕ) → ℕ
+lettersSize s k n x = if (isLettered s) (textSize k n x) 0
+
 abbrev pub other : Taken
 other = Other
 
-abbrev pub alone : (size : ℕ) → Taken
-alone zero = Other
-alone (suc z) = Number (suc z)
+-- a row without children that takes so many bytes as a number, or so many as letters
+abbrev pub alone : (number letters count : ℕ) → Taken
+alone zero zero n = Other
+alone zero (suc y) n = Letters n (suc y)
+alone (suc z) y n = Number (suc z)
 
--- the row in front of words, where so many levels are left
-unfoldable pub takenOf : (levels : ℕ) → (words : List ℕ) → Taken
-takenOf zero w = Other
-takenOf (suc l) [] = Other
-takenOf (suc l) (k ∷ []) = Other
-takenOf (suc l) (k ∷ n ∷ w) = if (opens (styleOf k) k n) (Open k n) (alone (numberSize (styleOf k) k n))
+-- the row in front of words, with its text in front of x, where so many levels are left
+unfoldable pub takenOf : (levels : ℕ) → (words text : List ℕ) → Taken
+takenOf zero w x = Other
+takenOf (suc l) [] x = Other
+takenOf (suc l) (k ∷ []) x = Other
+takenOf (suc l) (k ∷ n ∷ w) x = if (opens (styleOf k) k n) (Open k n) (alone (numberSize (styleOf k) k n) (lettersSize (styleOf k) k n x) n)
 
 -- A place in a table
 

@@ -43,14 +43,14 @@ impl Cursor {
         }
     }
 
-    // Behind a row of so many bytes, without text, with a mark of that width.
-    fn behind(self, size: usize, width: usize) -> Self
-        requires { ⌜ (self .row + 1 < 2 ^ 64) × (self .at + size < 2 ^ 64) × (self .mark + width < 2 ^ 64) ⌝ }
-        ensures { λ r. ⌜ r ≡ behind self size width ⌝ }
+    // Behind a row of so many bytes, so many of them text, with a mark of that width.
+    fn behind(self, size: usize, letters: usize, width: usize) -> Self
+        requires { ⌜ (self .row + 1 < 2 ^ 64) × (self .text + letters < 2 ^ 64) × (self .at + size < 2 ^ 64) × (self .mark + width < 2 ^ 64) ⌝ }
+        ensures { λ r. ⌜ r ≡ behind self size letters width ⌝ }
     {
         Self {
             row: self.row + 1,
-            text: self.text,
+            text: self.text + letters,
             at: self.at + size,
             mark: self.mark + width,
             elements: 0,
@@ -211,8 +211,8 @@ fn put_compound(out: &mut [u8], at: usize, kind: u64, count: u64, mark: usize) -
     }
 }
 
-// A row that is a value of its own. Numbers, lists and maps that are not empty, and described values go by their kind at once, which is
-// faster than by a style: they are most rows, and have no text.
+// A row that is a value of its own. Numbers, letters, lists and maps that are not empty, and described values go by their kind at once,
+// which is faster than by a style: they are most rows.
 fn put_value(words: &[u64], text: &[u8], out: &mut [u8], n: usize, c: Cursor) -> Cursor
     requires { ⌜ (c .elements ≡ 0) × Ready (now words) (now text) (now out) n c ⌝ }
     ensures { λ r. ⌜ Stepped (now (words .entry)) (now (text .entry)) (now (out .entry)) n c (now (out .exit)) r ⌝ }
@@ -223,15 +223,19 @@ fn put_value(words: &[u64], text: &[u8], out: &mut [u8], n: usize, c: Cursor) ->
     let at = c.at;
     let size = put::put_number(out, at, kind, number);
     if 0 < size {
-        return c.behind(size, 0);
+        return c.behind(size, 0, 0);
     }
     let size = put_compound(out, at, kind, number, c.mark);
     if 0 < size {
-        return c.behind(size, MARK_WIDTH);
+        return c.behind(size, 0, MARK_WIDTH);
+    }
+    let size = put::put_letters(out, at, kind, number, text, c.text);
+    if 0 < size {
+        return c.behind(size, number as usize, 0);
     }
     if kind == 0x00 {
         out[at] = format_code::DESCRIBED;
-        return c.behind(1, 0);
+        return c.behind(1, 0, 0);
     }
     put_styled(words, text, out, n, c)
 }

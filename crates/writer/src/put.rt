@@ -8,8 +8,10 @@ ghost use lib.Seq.{sets};
 ghost use Rattle.standard.specs.Choose.{if};
 ghost use Rattle.standard.specs.Bytes.{be};
 ghost use Rattle.standard.specs.Kinds.{unsigned, signed, styleOf};
+ghost use Rattle.standard.specs.Table.{letters};
 ghost use Rattle.standard.specs.Encode.{shortest};
-ghost use Rattle.writer.specs.Filling.{numberHead, Put};
+ghost use Rattle.writer.specs.Filling.{numberHead, spelled, lettersRow, Put};
+use crate::head;
 use standard::format_code;
 use standard::kind;
 
@@ -19,6 +21,15 @@ fn put_two(out: &mut [u8], at: usize, number: u64)
 {
     out[at] = (number / 0x100 % 256) as u8;
     out[at + 1] = (number % 256) as u8;
+}
+
+fn put_three(out: &mut [u8], at: usize, number: u64)
+    requires { ⌜ at + 3 ≤ length (now out) ⌝ }
+    ensures { λ _. ⌜ now (out .exit) ≡ sets (now (out .entry)) at (be 3 number) ⌝ }
+{
+    out[at] = (number / 0x1_0000 % 256) as u8;
+    out[at + 1] = (number / 0x100 % 256) as u8;
+    out[at + 2] = (number % 256) as u8;
 }
 
 fn put_four(out: &mut [u8], at: usize, number: u64)
@@ -78,6 +89,10 @@ pub(crate) fn put_be(out: &mut [u8], at: usize, width: usize, number: u64)
     }
     if width == 2 {
         put_two(out, at, number);
+        return;
+    }
+    if width == 3 {
+        put_three(out, at, number);
         return;
     }
     put_wide(out, at, width, number);
@@ -164,6 +179,89 @@ fn put_signed(out: &mut [u8], at: usize, byte: u8, code: u8, width: usize, numbe
         return put_coded(out, at, byte, 1, number);
     }
     put_coded(out, at, code, width, number)
+}
+
+// A code, the length of a text in so many bytes, and the text, from `from` on.
+fn put_run(
+    out: &mut [u8],
+    at: usize,
+    code: u8,
+    width: usize,
+    number: u64,
+    text: &[u8],
+    from: usize,
+) -> usize
+    requires { ⌜ (from + number ≤ length (now text)) × (at + length (code ∷ be width number ++ take number (drop from (now text))) ≤ length (now out)) ⌝ }
+    ensures { λ r. ⌜ Put (code ∷ be width number ++ take number (drop from (now (text .entry)))) (now (out .entry)) at (now (out .exit)) r ⌝ }
+{
+    let count = number as usize;
+    let size = put_coded(out, at, code, width, number);
+    put_text(out, at + size, text, from, count);
+    size + count
+}
+
+// A text behind its length: a code and a byte, or a code and four bytes.
+fn put_lettered(
+    out: &mut [u8],
+    at: usize,
+    short: u8,
+    code: u8,
+    number: u64,
+    text: &[u8],
+    from: usize,
+) -> usize
+    requires { ⌜ (from + number ≤ length (now text)) × (at + length (spelled short code number (drop from (now text))) ≤ length (now out)) ⌝ }
+    ensures { λ r. ⌜ Put (spelled short code number (drop from (now (text .entry)))) (now (out .entry)) at (now (out .exit)) r ⌝ }
+{
+    if number < head::SHORT_END {
+        return put_run(out, at, short, 1, number, text, from);
+    }
+    put_run(out, at, code, 4, number, text, from)
+}
+
+// A row of letters with its text, from `from` on; nothing for a kind that holds none.
+pub(crate) fn put_letters(
+    out: &mut [u8],
+    at: usize,
+    kind: u64,
+    number: u64,
+    text: &[u8],
+    from: usize,
+) -> usize
+    requires { ⌜ (from + letters (styleOf kind) number ≤ length (now text))
+        × (at + length (lettersRow (styleOf kind) (kind % 256) number (drop from (now text))) ≤ length (now out)) ⌝ }
+    ensures { λ r. ⌜ Put (lettersRow (styleOf kind) (kind % 256) number (drop from (now (text .entry)))) (now (out .entry)) at (now (out .exit)) r ⌝ }
+{
+    match kind {
+        0xb0 => put_lettered(
+            out,
+            at,
+            format_code::BINARY_8,
+            format_code::BINARY_32,
+            number,
+            text,
+            from,
+        ),
+        0xb1 => put_lettered(
+            out,
+            at,
+            format_code::STRING_8,
+            format_code::STRING_32,
+            number,
+            text,
+            from,
+        ),
+        0xb3 => put_lettered(
+            out,
+            at,
+            format_code::SYMBOL_8,
+            format_code::SYMBOL_32,
+            number,
+            text,
+            from,
+        ),
+        _ => 0,
+    }
 }
 
 // A number in the shortest form of its kind; nothing for a kind that holds no number.

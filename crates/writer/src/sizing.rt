@@ -1,20 +1,19 @@
 // Sizing: the checks of all rows and the bytes that they will be written to (docs/FORMAT.md, 6.1).
 ghost use mathlib.Core.Path.{_≡_};
-ghost use Prim.Native.Nat.{ℕ, _+_, _*_, _^_, _≤_, _<_};
-ghost use mathlib.Core.Bool.{_&&_};
-ghost use lib.Dec.{eqb, leb, ltb};
+ghost use Prim.Native.Nat.{_+_, _*_, _^_, _≤_, _<_};
+ghost use lib.Dec.{eqb, ltb};
 ghost use lib.ListN.{length, drop};
 ghost use lib.Seq.{sets};
 ghost use Rattle.standard.specs.Choose.{if};
 ghost use Rattle.standard.specs.Bytes.{be};
 ghost use Rattle.standard.specs.Kinds.{styleOf};
 ghost use Rattle.standard.specs.Answer.{got};
-ghost use Rattle.standard.specs.Table.{most, any, first, next};
+ghost use Rattle.standard.specs.Table.{any, first, next};
 ghost use Rattle.standard.specs.InCode.{styleIs};
 ghost use Rattle.standard.specs.Encode.{shortEnd};
 ghost use Rattle.writer.specs.InCode.{spotIs};
 ghost use Rattle.writer.specs.Rows.{check};
-ghost use Rattle.writer.specs.Sizing.{opens, takenOf, other, codeWidth, values, totalFrom, Marked, Within, start, past, Rowed};
+ghost use Rattle.writer.specs.Sizing.{opens, textSize, lettersSize, takenOf, other, codeWidth, values, totalFrom, Marked, Within, start, past, Rowed};
 use crate::filling;
 use crate::head;
 use crate::number;
@@ -70,9 +69,11 @@ pub enum Sized {
 pub enum Taken {
     // A number that takes so many bytes.
     Number(usize),
+    // A text that is good: its bytes, and those that it takes with its code and its length.
+    Letters(usize, usize),
     // A list, a map or a described value, by its kind, with so many children.
     Open(u64, usize),
-    // Anything else: a row with text, an array, an empty compound, a bad row, or none.
+    // Anything else: a row with 16 bytes of text, an array, an empty compound, a bad row, or none.
     Other,
 }
 
@@ -96,10 +97,45 @@ fn is_open(kind: u64, number: u64) -> bool
     }
 }
 
-// The row at `row`, where so many levels are left.
-fn take_row(words: &[u64], row: usize, levels: usize) -> Taken
-    requires { ⌜ 2 * row ≤ length (now words) ⌝ }
-    ensures { λ r. ⌜ r ≡ takenOf levels (drop (2 * row) (now (words .entry))) ⌝ }
+// The bytes of a text with its code and its length, where it is good; 0 where it is not.
+fn size_text(kind: u64, number: u64, letters: &[u8], from: usize) -> usize
+    requires { ⌜ from ≤ length (now letters) ⌝ }
+    ensures { λ r. ⌜ r ≡ textSize kind number (drop from (now (letters .entry))) ⌝ }
+{
+    if kind::MOST < number {
+        return 0;
+    }
+    let count = number as usize;
+    if letters.len() - from < count {
+        return 0;
+    }
+    let end = from + count;
+    if !text::is_clean(kind, &letters[from..end]) {
+        return 0;
+    }
+    if number < head::SHORT_END {
+        return 2 + count;
+    }
+    5 + count
+}
+
+// The bytes of letters, by their kind; 0 where the kind holds none.
+fn size_letters(kind: u64, number: u64, letters: &[u8], from: usize) -> usize
+    requires { ⌜ from ≤ length (now letters) ⌝ }
+    ensures { λ r. ⌜ r ≡ lettersSize (styleOf kind) kind number (drop from (now (letters .entry))) ⌝ }
+{
+    match kind {
+        0xb0 => size_text(0xb0, number, letters, from),
+        0xb1 => size_text(0xb1, number, letters, from),
+        0xb3 => size_text(0xb3, number, letters, from),
+        _ => 0,
+    }
+}
+
+// The row at `row`, whose text begins at `from`, where so many levels are left.
+fn take_row(words: &[u64], text: &[u8], row: usize, from: usize, levels: usize) -> Taken
+    requires { ⌜ (2 * row ≤ length (now words)) × (from ≤ length (now text)) ⌝ }
+    ensures { λ r. ⌜ r ≡ takenOf levels (drop (2 * row) (now (words .entry))) (drop from (now (text .entry))) ⌝ }
 {
     let k = 2 * row;
     if levels == 0 {
@@ -114,10 +150,14 @@ fn take_row(words: &[u64], row: usize, levels: usize) -> Taken
         return Taken::Open(kind, number as usize);
     }
     let size = number::size_number(kind, number);
-    if size == 0 {
-        return Taken::Other;
+    if 0 < size {
+        return Taken::Number(size);
     }
-    Taken::Number(size)
+    let size = size_letters(kind, number, text, from);
+    if 0 < size {
+        return Taken::Letters(number as usize, size);
+    }
+    Taken::Other
 }
 
 // The spot of the row behind another one.
@@ -203,7 +243,7 @@ fn size_good(
     kind: u64,
     number: u64,
 ) -> Sized
-    requires { ⌜ Within (now words) (now text) c × (styleIs style ≡ styleOf kind) × (takenOf levels (drop (2 * (c .row)) (now words)) ≡ other)
+    requires { ⌜ Within (now words) (now text) c × (styleIs style ≡ styleOf kind) × (takenOf levels (drop (2 * (c .row)) (now words)) (drop (c .text) (now text)) ≡ other)
         × (check levels any (c .row) (drop (2 * (c .row)) (now words)) (drop (c .text) (now text)) ≡ got (kind, number)) ⌝ }
     ensures { λ r. ⌜ Rowed (now (words .entry)) (now (text .entry)) levels c (now (marks .entry)) (now (marks .exit)) r ⌝ }
 {
@@ -233,7 +273,7 @@ fn size_good(
 
 // The row at `c`, whatever it is but an open one.
 fn size_row(words: &[u64], text: &[u8], levels: usize, marks: &mut [u8], c: Extent) -> Sized
-    requires { ⌜ Within (now words) (now text) c × (takenOf levels (drop (2 * (c .row)) (now words)) ≡ other) ⌝ }
+    requires { ⌜ Within (now words) (now text) c × (takenOf levels (drop (2 * (c .row)) (now words)) (drop (c .text) (now text)) ≡ other) ⌝ }
     ensures { λ r. ⌜ Rowed (now (words .entry)) (now (text .entry)) levels c (now (marks .entry)) (now (marks .exit)) r ⌝ }
 {
     match row::check_row(words, text, c.row, c.text, levels, IsArrayElement::False) {
@@ -290,10 +330,9 @@ pub(crate) fn size_values(
     let mut left = count;
     while 0 < left {
         left -= 1;
-        match take_row(words, c.row, levels) {
-            Taken::Number(size) => {
-                c = c.past(0, size);
-            }
+        match take_row(words, text, c.row, c.text, levels) {
+            Taken::Number(size) => c = c.past(0, size),
+            Taken::Letters(letters, size) => c = c.past(letters, size),
             Taken::Open(kind, children) => {
                 let width = open_mark(kind);
                 let first = Extent {

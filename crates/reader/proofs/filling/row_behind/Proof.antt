@@ -1,80 +1,63 @@
--- `row_behind` gives the row that stands behind a code, layout by layout.
+-- Each arm of `row_behind` is a code whose entry says that row.
 use borrow.Author.Needs.{needs}
-use Prim.Native.Nat.{_+_, _≤_}
-use mathlib.Core.Path.{_≡_, ap, _∙_}
-use mathlib.Core.Bool.{not}
-use native.Mathlib.Omega.{arith}
-use lib.ListN.{length}
-use Rattle.standard.specs.Codes.{whole, small, sized}
-use Rattle.standard.specs.Grammar.{extend}
-use Rattle.standard.specs.InCode.{layoutIs}
-use Rattle.standard.specs.Facts.{and-left, and-right}
-use Rattle.standard.specs.declared.format_code.Layout.{Layout}
-use Rattle.reader.specs.Entries.{narrow, usual, judged, sure}
-use Rattle.reader.proofs.Entries.{four-or-eight}
-use Rattle.reader.proofs.RowSteps.{unknown-stuck, Entered, entered, constant-row, first-fits, whole-row, small-row, raw-row, sized-row, described-row, compound-fits, compound-row}
+use Rattle.standard.specs.Choose.{lookup}
+use Rattle.standard.specs.Codes.{codes, entryOf}
+use Rattle.reader.proofs.RowSteps.{constant-row, described-row}
 use Rattle.reader.proofs.filling.row_behind.Statement.{statement}
 use Rattle.reader.proofs.filling.row_behind.Tie as tie
 
--- once the layout is known
-here : (c : tie.After-entry-of) (y : Layout) → c .entry-of .result .1 ≡ y → Entered (c .before .before .args .bytes .now) (c .before .before .args .at) (c .before .before .args .code) (c .entry-of .result .0) (layoutIs y)
-here c = entered (c .before .before .args .bytes .now) (c .before .before .args .at) (c .before .before .args .code) (c .entry-of .result) (c .entry-of .ensures) (c .before .before .pre .1)
-
--- the bytes that are read are there
-whole-here : (c : tie.After-layout2) → c .before .before .before .before .args .at + c .layout2 .given .0 .0 ≤ length (c .before .before .before .before .args .bytes .now)
-whole-here c = first-fits (c .before .before .before .before .args .bytes .now) (c .before .before .entry-of .result .0) (c .before .before .before .before .args .at) (c .before .before .before .before .pre .0) (whole (c .layout2 .given .0 .0)) (here (c .before .before) _ (c .layout2 .given .1) .lands)
-
-small-here : (c : tie.After-layout3) → c .before .before .before .before .args .at + 1 ≤ length (c .before .before .before .before .args .bytes .now)
-small-here c = first-fits (c .before .before .before .before .args .bytes .now) (c .before .before .entry-of .result .0) (c .before .before .before .before .args .at) (c .before .before .before .before .pre .0) (small (c .layout3 .given .0 .0)) (here (c .before .before) _ (c .layout3 .given .1) .lands)
-
-sized-here : (c : tie.After-layout5) → c .before .before .before .before .args .at + c .layout5 .given .0 .0 ≤ length (c .before .before .before .before .args .bytes .now)
-sized-here c = first-fits (c .before .before .before .before .args .bytes .now) (c .before .before .entry-of .result .0) (c .before .before .before .before .args .at) (c .before .before .before .before .pre .0) (sized (c .layout5 .given .0 .0)) (here (c .before .before) _ (c .layout5 .given .1) .lands)
-
-compound-here : (c : tie.After-layout6) → c .before .before .before .before .args .at + c .layout6 .given .0 .0 + c .layout6 .given .0 .0 ≤ length (c .before .before .before .before .args .bytes .now)
-compound-here c = compound-fits (c .before .before .before .before .args .bytes .now) (c .before .before .entry-of .result .0) (c .before .before .before .before .args .at) (c .before .before .before .before .pre .0) (c .layout6 .given .0 .0) (here (c .before .before) _ (c .layout6 .given .1) .lands)
-
 pub row-behind-spec : {M : Type 1} → statement M
-unfolding sure
+unfolding lookup codes entryOf
 row-behind-spec =
     tie.close
     (tie.spec
     (λ c κs. search needs)
-    (λ c. search needs)
+    (λ c κs. let s = c .before .before in (tt, s .pre .0, rw (c .match .keys2) at (s .pre .1)))
     (λ c κs. search needs)
-    (λ c. search needs)
     (λ c κs. search needs)
-    (λ c. search needs)
     (λ c κs. search needs)
-    (λ c. search needs)
-    (λ c κs. (and-left (usual (c .before .layout2 .given .0 .0)) _ (here (c .before .before .before) _ (c .before .layout2 .given .1) .fit), whole-here (c .before)))
-    (λ c. omega (arith, whole-here (c .before .before)))
     (λ c κs. search needs)
-    (λ c. search needs)
-    (λ c. omega (arith, small-here (c .before .before)))
     (λ c κs. search needs)
-    (λ c κs. (c .byte .ensures .1, four-or-eight (c .before .before .before .layout3 .given .0 .0) (and-right (not (judged (c .before .before .before .before .before .entry-of .result .0))) _ (here (c .before .before .before .before .before) _ (c .before .before .before .layout3 .given .1) .fit))))
-    (λ c. omega (arith, small-here (c .before .before .before .before)))
-    (λ c κs. search needs)
-    (λ c. search needs)
-    (λ c κs. search needs)
-    (λ c. search needs)
-    (λ c κs. (and-right (not (judged (c .before .before .before .entry-of .result .0))) (narrow (c .before .layout5 .given .0 .0)) (here (c .before .before .before) _ (c .before .layout5 .given .1) .fit), sized-here (c .before)))
-    (λ c. omega (arith, sized-here (c .before .before)))
-    (λ c κs. search needs)
-    (λ c. search needs)
-    (λ c. omega (arith, compound-here (c .before)))
-    (λ c κs. (here (c .before .before .before) _ (c .before .layout6 .given .1) .fit, compound-here (c .before)))
-    (λ c. omega (arith, compound-here (c .before .before)))
-    (λ c. omega (arith, compound-here (c .before .before)))
-    (λ c κs. search needs)
-    (λ c. search needs)
-    (λ c κs. let t = here (c .before .before .before) _ (c .before .layout7 .given .1) in (t .fit, c .before .before .before .before .before .pre .0, t .lands))
-    (λ c. absurd (unknown-stuck _ _ (here (c .before .before .before) _ (c .before .enum-told .given .1) .lands)))
-    (λ c. let s = c .before .before .before .before .before in rw (c .parent .ensures) (here (c .before .before .before) _ (c .before .enum-told2 .given .1) .back _ (described-row (s .args .bytes .now) (c .before .before .before .entry-of .result .0) (s .args .at) (s .pre .0))))
-    (λ c. let s = c .before .before .before .before .before .before in rw (c .leaf2 .ensures) (here (c .before .before .before .before) _ (c .before .before .layout .given .1) .back _ (constant-row (s .args .bytes .now) (c .before .before .before .before .entry-of .result .0) (s .args .at) (s .pre .0) (c .before .before .layout .given .0 .0))))
-    (λ c. let s = c .before .before .before .before .before .before .before in rw (c .leaf3 .ensures) (here (c .before .before .before .before .before) _ (c .before .before .before .layout2 .given .1) .back _ (whole-row (s .args .bytes .now) (c .before .before .before .before .before .entry-of .result .0) (s .args .at) (s .pre .0) (c .before .before .before .layout2 .given .0 .0) (c .before .number-at .result) (whole-here (c .before .before .before)) (c .before .number-at .ensures))))
-    (λ c. let s = c .before .before .before .before .before .before .before .before .before in rw (c .leaf4 .ensures) (here (c .before .before .before .before .before .before .before) _ (c .before .before .before .before .before .layout3 .given .1) .back _ (small-row (s .args .bytes .now) (c .before .before .before .before .before .before .before .entry-of .result .0) (s .args .at) (s .pre .0) (c .before .before .before .before .before .layout3 .given .0 .0) (c .before .extended .result) (small-here (c .before .before .before .before .before)) (c .before .extended .ensures ∙ ap (extend (c .before .before .before .before .before .layout3 .given .0 .0)) (c .before .before .byte .ensures .0)))))
-    (λ c. let s = c .before .before .before .before .before .before in let t = here (c .before .before .before .before) _ (c .before .before .layout4 .given .1) in rw (c .leaf5 .ensures) (t .back _ (raw-row (s .args .bytes .now) (c .before .before .before .before .entry-of .result .0) (s .args .at) (s .pre .0) (c .before .before .layout4 .given .0 .0) (t .lands))))
-    (λ c. let s = c .before .before .before .before .before .before .before in let t = here (c .before .before .before .before .before) _ (c .before .before .before .layout5 .given .1) in rw (c .leaf6 .ensures) (t .back _ (sized-row (s .args .bytes .now) (c .before .before .before .before .before .entry-of .result .0) (s .args .at) (s .pre .0) (c .before .before .before .layout5 .given .0 .0) (c .before .narrow-at .result) (t .lands) (c .before .narrow-at .ensures .0))))
-    (λ c. let s = c .before .before .before .before .before .before .before in let t = here (c .before .before .before .before .before) _ (c .before .before .before .layout6 .given .1) in rw (c .parent2 .ensures) (t .back _ (compound-row (s .args .bytes .now) (c .before .before .before .before .before .entry-of .result .0) (s .args .at) (s .pre .0) (c .before .before .before .layout6 .given .0 .0) (c .before .narrow-at2 .result) (t .lands) (c .before .narrow-at2 .ensures .0))))
-    (λ c. here (c .before .before .before .before) _ (c .before .before .layout7 .given .1) .back _ (c .array-row .ensures)))
+    (λ c κs. let s = c .before .before in (tt, s .pre .0, rw (c .match .keys8) at (s .pre .1)))
+    (λ c κs. let s = c .before .before in (tt, s .pre .0, rw (c .match .keys9) at (s .pre .1)))
+    (λ c κs. let s = c .before .before in (tt, s .pre .0, rw (c .match .keys10) at (s .pre .1)))
+    (λ c κs. let s = c .before .before in (tt, s .pre .0, rw (c .match .keys11) at (s .pre .1)))
+    (λ c κs. let s = c .before .before in (tt, s .pre .0, rw (c .match .keys12) at (s .pre .1)))
+    (λ c κs. let s = c .before .before in (tt, s .pre .0, rw (c .match .keys13) at (s .pre .1)))
+    (λ c κs. let s = c .before .before in (tt, s .pre .0, rw (c .match .keys14) at (s .pre .1)))
+    (λ c κs. let s = c .before .before in (tt, s .pre .0, rw (c .match .keys15) at (s .pre .1)))
+    (λ c κs. let s = c .before .before in (tt, s .pre .0, rw (c .match .keys16) at (s .pre .1)))
+    (λ c κs. let s = c .before .before in (tt, s .pre .0, rw (c .match .keys17) at (s .pre .1)))
+    (λ c κs. let s = c .before .before in (tt, s .pre .0, rw (c .match .keys18) at (s .pre .1)))
+    (λ c κs. let s = c .before .before in (tt, s .pre .0, rw (c .match .keys19) at (s .pre .1)))
+    (λ c κs. let s = c .before .before in (tt, s .pre .0, rw (c .match .keys20) at (s .pre .1)))
+    (λ c κs. let s = c .before .before in (tt, s .pre .0, rw (c .match .keys21) at (s .pre .1)))
+    (λ c κs. let s = c .before .before in (tt, s .pre .0, rw (c .match .keys22) at (s .pre .1)))
+    (λ c κs. let s = c .before .before in (tt, s .pre .0, rw (c .match .keys23) at (s .pre .1)))
+    (λ c κs. let s = c .before .before in (tt, s .pre .0, rw (c .match .keys24) at (s .pre .1)))
+    (λ c κs. c .before .before .pre)
+    (λ c. let s = c .before .before .before in rw (c .parent .ensures, c .before .match .keys1) (described-row (s .args .bytes .now) 0 (s .args .at) (s .pre .0)))
+    (λ c. rw (c .before .match .keys2) (c .whole-row .ensures))
+    (λ c. let s = c .before .before .before in rw (c .leaf .ensures, c .before .match .keys3) (constant-row (s .args .bytes .now) 86 (s .args .at) (s .pre .0) 1))
+    (λ c. let s = c .before .before .before in rw (c .leaf2 .ensures, c .before .match .keys4) (constant-row (s .args .bytes .now) 86 (s .args .at) (s .pre .0) 0))
+    (λ c. let s = c .before .before .before in rw (c .leaf3 .ensures, c .before .match .keys5) (constant-row (s .args .bytes .now) 112 (s .args .at) (s .pre .0) 0))
+    (λ c. let s = c .before .before .before in rw (c .leaf4 .ensures, c .before .match .keys6) (constant-row (s .args .bytes .now) 128 (s .args .at) (s .pre .0) 0))
+    (λ c. let s = c .before .before .before in rw (c .leaf5 .ensures, c .before .match .keys7) (constant-row (s .args .bytes .now) 208 (s .args .at) (s .pre .0) 0))
+    (λ c. rw (c .before .match .keys8) (c .whole-row2 .ensures))
+    (λ c. rw (c .before .match .keys9) (c .whole-row3 .ensures))
+    (λ c. rw (c .before .match .keys10) (c .small-row .ensures))
+    (λ c. rw (c .before .match .keys11) (c .small-row2 .ensures))
+    (λ c. rw (c .before .match .keys12) (c .whole-row4 .ensures))
+    (λ c. rw (c .before .match .keys13) (c .whole-row5 .ensures))
+    (λ c. rw (c .before .match .keys14) (c .whole-row6 .ensures))
+    (λ c. rw (c .before .match .keys15) (c .whole-row7 .ensures))
+    (λ c. rw (c .before .match .keys16) (c .whole-row8 .ensures))
+    (λ c. rw (c .before .match .keys17) (c .whole-row9 .ensures))
+    (λ c. rw (c .before .match .keys18) (c .sized-row .ensures))
+    (λ c. rw (c .before .match .keys19) (c .sized-row2 .ensures))
+    (λ c. rw (c .before .match .keys20) (c .sized-row3 .ensures))
+    (λ c. rw (c .before .match .keys21) (c .compound-row .ensures))
+    (λ c. rw (c .before .match .keys22) (c .compound-row2 .ensures))
+    (λ c. rw (c .before .match .keys23) (c .compound-row3 .ensures))
+    (λ c. rw (c .before .match .keys24) (c .compound-row4 .ensures))
+    (λ c. c .entry-row .ensures))

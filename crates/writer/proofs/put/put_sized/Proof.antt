@@ -6,7 +6,8 @@ use mathlib.Core.List.{_∷_, _++_}
 use native.Mathlib.Omega.{arith}
 use lib.ListN.{length}
 use Rattle.standard.specs.Bytes.{be}
-use Rattle.writer.proofs.Direct.{coded-long, sized-long, sized-put}
+use Rattle.laws.specs.Numbers.{length-be}
+use Rattle.writer.proofs.Direct.{coded-long, sized-long, put-behind}
 use Rattle.writer.proofs.put.put_sized.Statement.{statement}
 use Rattle.writer.proofs.put.put_sized.Tie as tie
 
@@ -24,4 +25,4 @@ put-sized-spec =
     (λ c κs. let s = c .before .before .before .before .before .before in omega (arith, s .pre .1, long s, c .before .before .before .put-coded .ensures .size, c .before .before .before .put-coded .kept .0))
     (λ c. let s = c .before .before .before .before .before .before .before .before .before in omega (arith, s .pre .1, s .good .0, long s, c .before .before .before .before .before .before .put-coded .ensures .size))
     (λ c. search needs)
-    (λ c. let a = c .before .before .before .before .before .before .before .before .before .args in sized-put _ _ _ (a .at) (a .code) (a .width) (a .width + a .body) (a .count) _ (c .before .before .before .before .before .before .put-coded .ensures) (c .before .before .put-be .ensures)))
+    (λ c. let a = c .before .before .before .before .before .before .before .before .before .args in put-behind _ _ _ _ _ _ _ _ (c .before .before .before .before .before .before .put-coded .ensures) (c .before .before .put-be .ensures) (length-be (a .width) (a .count))))

@@ -1,4 +1,4 @@
--- `size_values` finds of so many values what the definition says. A number and any other row without children is taken in one turn; what is below an open row
+-- `size_values` finds of so many values what the definition says. A number, letters and any other row without children are taken in one turn; what is below an open row
 -- is sized by a call of the function itself with one level less. Invariant: what is left from here comes to what was due at the start.
 use Prim.Native.Nat.{ℕ, _+_, _-_, _<_}
 use mathlib.Core.Path.{sym, _∙_, subst}
@@ -10,7 +10,7 @@ use Rattle.standard.specs.Table.{any}
 use Rattle.writer.specs.Sizing.{Within, Comes, Rowed}
 use Rattle.writer.specs.declared.sizing.Extent.{Extent}
 use Rattle.writer.proofs.Sums.{comes-self, comes-on, comes-end, comes-no}
-use Rattle.writer.proofs.Turns.{number-within, number-comes, open-first, open-no, open-within, open-comes}
+use Rattle.writer.proofs.Turns.{number-taken, letters-taken, leaf-sums, leaf-turn, open-first, open-no, open-within, open-comes}
 use Rattle.writer.proofs.sizing.size_values.Reads as size-values
 use Rattle.writer.proofs.sizing.size_values.Kinds as size-values-kinds
 use Rattle.writer.proofs.sizing.+size_values.Lts-size_values as size-values-lts
@@ -91,11 +91,27 @@ pub +size-values-spec : {M : Type 1} → statement M
     size-values-μ-loop
     (λ c. (c .before .before .before .pre .1, comes-self _ _ _ _ _ _ _))
     (λ c. omega (arith, c .loop-test .taken))
-    (λ c κs. c .before .loop .inv .0 .rows)
+    (λ c κs. (c .before .loop .inv .0 .rows, c .before .loop .inv .0 .letters))
     (λ c. search needs)
-    (λ c κs. let y = number-within (c .before .before .before .before .before .before .before .before .before .args .words .now) (c .before .before .before .before .before .before .before .before .before .args .text .now) (c .before .before .before .before .before .before .before .before .before .args .levels) (c .before .before .before .before .before .loop .c) (c .before .before .before .before .before .loop .left) (c .before .before .before .before .before .loop .marks) (c .before .before .before .before .before .loop .inv .0) (c .before .before .before .before .loop-test .taken) _ (sym (c .before .before .before .take-row .ensures) ∙ c .before .size .given .1) in (omega (arith, y .rows, c .before .before .before .before .before .before .before .before .before .good .0 .1), omega (arith, y .letters, c .before .before .before .before .before .before .before .before .before .good .1 .0 .1), omega (arith, y .small, y .rows, y .letters, c .before .before .before .before .before .before .before .before .before .good .0 .1, c .before .before .before .before .before .before .before .before .before .good .1 .0 .1)))
+    (λ c κs.
+    let i = c .before .before .before .before in
+    let s = i .before .before .before .before .before in
+    leaf-sums (s .args .words .now) (s .args .text .now) (s .args .levels) (i .before .loop .c) (i .before .loop .left) (i .before .loop .marks) (i .before .loop .inv .0) (i .loop-test .taken) _ _ (number-taken _ _ _ _ (sym (c .before .before .before .take-row .ensures) ∙ c .before .size .given .1)) (s .good .0 .1) (s .good .1 .0 .1))
     (λ c. omega (arith, c .before .before .before .before .before .loop-test .taken))
-    (λ c. rw (c .past .ensures) (number-within (c .before .before .before .before .before .before .before .before .before .before .args .words .now) (c .before .before .before .before .before .before .before .before .before .before .args .text .now) (c .before .before .before .before .before .before .before .before .before .before .args .levels) (c .before .before .before .before .before .before .loop .c) (c .before .before .before .before .before .before .loop .left) (c .before .before .before .before .before .before .loop .marks) (c .before .before .before .before .before .before .loop .inv .0) (c .before .before .before .before .before .loop-test .taken) _ (sym (c .before .before .before .before .take-row .ensures) ∙ c .before .before .size .given .1), comes-on (c .before .before .before .before .before .before .loop .inv .1) (number-comes (c .before .before .before .before .before .before .before .before .before .before .args .words .now) (c .before .before .before .before .before .before .before .before .before .before .args .text .now) (c .before .before .before .before .before .before .before .before .before .before .args .levels) (c .before .before .before .before .before .before .loop .c) (c .before .before .before .before .before .before .loop .left) (c .before .before .before .before .before .before .loop .marks) (c .before .before .before .before .before .before .loop .inv .0) (c .before .before .before .before .before .loop-test .taken) _ (sym (c .before .before .before .before .take-row .ensures) ∙ c .before .before .size .given .1))))
+    (λ c.
+    let i = c .before .before .before .before .before in
+    let s = i .before .before .before .before .before in
+    leaf-turn (s .args .words .now) (s .args .text .now) (s .args .levels) (i .before .loop .c) (i .before .loop .left) (i .before .loop .marks) (i .before .loop .inv .0) (i .loop-test .taken) _ _ (number-taken _ _ _ _ (sym (c .before .before .before .before .take-row .ensures) ∙ c .before .before .size .given .1)) (i .before .loop .inv .1) _ (c .past .ensures))
+    (λ c. search needs)
+    (λ c κs.
+    let i = c .before .before .before .before in
+    let s = i .before .before .before .before .before in
+    leaf-sums (s .args .words .now) (s .args .text .now) (s .args .levels) (i .before .loop .c) (i .before .loop .left) (i .before .loop .marks) (i .before .loop .inv .0) (i .loop-test .taken) _ _ (letters-taken _ _ _ _ _ (sym (c .before .before .before .take-row .ensures) ∙ c .before .letters .given .1)) (s .good .0 .1) (s .good .1 .0 .1))
+    (λ c. omega (arith, c .before .before .before .before .before .loop-test .taken))
+    (λ c.
+    let i = c .before .before .before .before .before in
+    let s = i .before .before .before .before .before in
+    leaf-turn (s .args .words .now) (s .args .text .now) (s .args .levels) (i .before .loop .c) (i .before .loop .left) (i .before .loop .marks) (i .before .loop .inv .0) (i .loop-test .taken) _ _ (letters-taken _ _ _ _ _ (sym (c .before .before .before .before .take-row .ensures) ∙ c .before .before .letters .given .1)) (i .before .loop .inv .1) _ (c .past2 .ensures))
     (λ c. search needs)
     (λ c κs. search needs)
     (λ c. omega (arith, opened t (c .before) .0 .rows, c .before .before .before .before .before .before .before .before .before .before .before .good .0 .1))
