@@ -9,5 +9,6 @@ pub mod Sums
 pub mod Sizes
 pub mod Turns
 pub mod Whole
+pub mod Onward
 pub mod Writes
 pub mod Unique

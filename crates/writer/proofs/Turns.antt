@@ -391,7 +391,7 @@ inner-next any k i = i
 inner-next first k i = tt
 inner-next (like j) k i = tt
 
-inner-plain : (c : Spot) (k : ℕ) → Inner c → Sure c → T (allowed c k) → T (plain (styleOf k))
+pub inner-plain : (c : Spot) (k : ℕ) → Inner c → Sure c → T (allowed c k) → T (plain (styleOf k))
 unfolding allowed
 inner-plain any k i p t = absurd i
 inner-plain first k i p t = t
@@ -457,7 +457,7 @@ module _ (w x : List ℕ) (l : ℕ) (c : Spot) (o : Extent) (n : ℕ) (b : List 
     item-turn y = rw here (item-within, inner-next c k i, item-sure, comes-on y item-comes)
 
 -- elements have no marks
-items-unmarked : (vs : Trees) (l : ℕ) (c : Spot) → Inner c → Sure c → All (λ d v. Valid l d v) c vs → marks* vs ≡ []
+pub items-unmarked : (vs : Trees) (l : ℕ) (c : Spot) → Inner c → Sure c → All (λ d v. Valid l d v) c vs → marks* vs ≡ []
 unfolding marks be
 items-unmarked none l c i p a = refl
 items-unmarked (more (node k n t cs) vs) zero c i p a = absurd (a .0)

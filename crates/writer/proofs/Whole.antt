@@ -24,7 +24,7 @@ use Rattle.writer.specs.declared.sizing.Extent.{Extent}
 use Rattle.writer.proofs.Sums.{Found, found, unfit}
 
 -- one value from the beginning
-pub one-value : (l : ℕ) (w x : List ℕ) → values w x l any 1 0 0 ≡ _>>=_ (tree l any 0 w x) (λ q. got (more (q .0) none, q .1, q .2))
+one-value : (l : ℕ) (w x : List ℕ) → values w x l any 1 0 0 ≡ _>>=_ (tree l any 0 w x) (λ q. got (more (q .0) none, q .1, q .2))
 unfolding several
 one-value l w x = go (tree l any 0 w x)
   where
@@ -137,7 +137,7 @@ module _ (l : ℕ) (w x : List ℕ) (h : ¬ (length w % 2 ≡ 1)) where
       whole-values : values w x l any 1 0 0 ≡ got (more (o .value) none, o .left, o .tail)
       whole-values = one-value l w x ∙ rw (o .isTree)
 
-pub marked-one : (b a : List ℕ) (m : ℕ) (v : Tree) (u y : List ℕ) (q : Answer (Trees × List ℕ × List ℕ)) → q ≡ got (more v none, u, y) → Marked b m a q → m + length (marks v) ≤ length b → a ≡ sets b m (marks v)
+marked-one : (b a : List ℕ) (m : ℕ) (v : Tree) (u y : List ℕ) (q : Answer (Trees × List ℕ × List ℕ)) → q ≡ got (more v none, u, y) → Marked b m a q → m + length (marks v) ≤ length b → a ≡ sets b m (marks v)
 unfolding Marked marks
 marked-one b a m v u y q e h r =
     let g : m + length (marks v ++ []) ≤ length b → a ≡ sets b m (marks v ++ []) = rw e at h in

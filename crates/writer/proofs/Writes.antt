@@ -1,28 +1,28 @@
 -- Writing a table that fits: its marks at the end of the region, then its rows from the front.
 use Prim.Native.Nat.{ℕ, _+_, _-_, _≤_, _<_}
 use mathlib.Core.Path.{_≡_, refl, sym, ap, _∙_}
-use mathlib.Core.List.{List, [], _++_, append-nil}
+use mathlib.Core.List.{List, _++_}
 use native.Mathlib.Omega.{arith}
 use borrow.Author.Tests.{le-leb, lt-leb}
 use lib.ListN.{length, take, drop, length-append}
 use lib.Seq.{sets, length-sets, sets-eq, take-at, drop-at, length-take-le}
 use Rattle.standard.specs.Answer.{Answer, got, refuse, Place, at, _>>=_, outputShort}
-use Rattle.standard.specs.Tree.{Tree, none, more, rows, text}
-use Rattle.standard.specs.Table.{any, tree, table}
+use Rattle.standard.specs.Tree.{Tree, rows, text}
+use Rattle.standard.specs.Table.{tree, table}
 use Rattle.standard.specs.Encode.{encode}
 use Rattle.standard.specs.Outcomes.{bytesOf, size, Writing, writtenTo, write}
 use Rattle.laws.specs.Bounds.{rows-length}
-use Rattle.laws.specs.Tables.{tree-complete, table-holds}
+use Rattle.laws.specs.Tables.{table-holds}
 use Rattle.laws.specs.Stores.{front-over}
 use Rattle.writer.specs.Marks.{marks}
-use Rattle.writer.specs.Sizing.{Marked, values}
+use Rattle.writer.specs.Marking.{Markable}
 use Rattle.writer.specs.Filling.{flat, Fillable}
 use Rattle.standard.specs.Outcomes.{levelMost}
 use Rattle.writer.specs.Tables.{Fitting, Writable, bytesIn, marksIn}
 use Rattle.writer.specs.declared.sizing.Extent.{Extent}
 use Rattle.writer.proofs.Flat.{Flattened, flattened}
 use Rattle.writer.proofs.Rows.{boxed-covers}
-use Rattle.writer.proofs.Whole.{one-value, marked-one, fits-bytes}
+use Rattle.writer.proofs.Whole.{fits-bytes}
 
 -- what a run of stores leaves around itself
 around : (d : List ℕ) (i : ℕ) (xs : List ℕ) (n : ℕ) → i + length xs ≡ n → n ≤ length d → (drop i (take n (sets d i xs)) ≡ xs) × (drop n (sets d i xs) ≡ drop n d)
@@ -39,12 +39,6 @@ covered d i xs ys e h =
     let z : 0 + length ys ≡ length ys = omega arith in
     sets-eq ys (sets d i xs) 0 (rw length-sets (omega arith)) ∙ rw (z, f) (sym (sets-eq ys d 0 (omega arith) ∙ rw z))
 
-table-values : (l : ℕ) (w x : List ℕ) (v : Tree) → table l w x ≡ got v → values w x l any 1 0 0 ≡ got (more v none, [], [])
-table-values l w x v e =
-    let h = table-holds l w x v e in
-    let t : tree l any 0 w x ≡ got (v, [], []) = rw (h .0, h .1) (simp append-nil at (tree-complete l any v (h .2) 0 [] [])) in
-    one-value l w x ∙ rw t
-
 module _ (w x near : List ℕ) (n m : ℕ) (d : List ℕ) (g : Writable w x near n m d) where
   flatly : Flattened (g .tree)
   flatly = flattened (g .tree) levelMost (table-holds levelMost w x (g .tree) (g .isTable) .2) (omega (arith, g .size, g .small))
@@ -52,9 +46,13 @@ module _ (w x near : List ℕ) (n m : ℕ) (d : List ℕ) (g : Writable w x near
   pub near-marks : m ≤ length near → (d₁ : List ℕ) → d₁ ≡ sets d (n - m) (take m (drop 0 near)) → d₁ ≡ sets d (n - m) (marksIn (table levelMost w x))
   near-marks h d₁ e = e ∙ rw (g .isTable, g .close h)
 
-  pub far-marks : m ≤ n → (d₁ : List ℕ) → Marked d (n - m) d₁ (values w x levelMost any 1 0 0) → d₁ ≡ sets d (n - m) (marksIn (table levelMost w x))
-  far-marks h d₁ e =
-      rw (g .isTable) (marked-one d d₁ (n - m) (g .tree) [] [] (values w x levelMost any 1 0 0) (table-values levelMost w x (g .tree) (g .isTable)) e (omega (arith, g .mark, g .room)))
+  pub markable : m ≤ n → Markable w d (n - m) (g .tree)
+  markable h =
+      let t = table-holds levelMost w x (g .tree) (g .isTable) in
+      record { rowsAre = t .0; valid = t .2; small = omega (arith, g .size, g .small); room = omega (arith, g .mark, g .room) }
+
+  pub far-marks : m ≤ n → (d₁ : List ℕ) → ((v : Tree) → Markable w d (n - m) v → d₁ ≡ sets d (n - m) (marks v)) → d₁ ≡ sets d (n - m) (marksIn (table levelMost w x))
+  far-marks h d₁ e = rw (g .isTable) (e (g .tree) (markable h))
 
   module _ (h : m ≤ n) (d₁ : List ℕ) (e : d₁ ≡ sets d (n - m) (marksIn (table levelMost w x))) where
     tail-marks : drop (n - m) (take n d₁) ≡ marks (g .tree)

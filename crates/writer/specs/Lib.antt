@@ -4,5 +4,6 @@ pub mod Rows
 pub mod Marks
 pub mod Sizing
 pub mod Filling
+pub mod Marking
 pub mod Tables
 pub mod InCode

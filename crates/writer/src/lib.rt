@@ -1,9 +1,10 @@
 // The writer: a value table to bytes (docs/FORMAT.md, 3). A port of serde_amqp's src/ser.rs, whose names are kept where the two meet.
 //
 // Sizing goes over the rows once, checks everything and finds the bytes that they take; beside that it leaves the sizes of the
-// compounds that it meets, the marks. Only when success is certain is the output touched: the marks go to the end of the region
-// that will be written, and one pass over the rows writes each head and text and takes the marks as it comes to them. What is
-// still to be written is never shorter than the marks that are still to be taken, so none is overwritten before its turn.
+// compounds that it meets, the marks, as far as there is room for them. Only when success is certain is the output touched: the
+// marks go to the end of the region that will be written, and one pass over the rows writes each head and text and takes the marks
+// as it comes to them. What is still to be written is never shorter than the marks that are still to be taken, so none is
+// overwritten before its turn. A table with more compounds is gone over once more, without checks, to put its marks there.
 ghost use mathlib.Core.Path.{_≡_};
 ghost use Rattle.standard.specs.Outcomes as outcome;
 ghost use Rattle.standard.specs.Outcomes.{levelMost};
@@ -15,6 +16,7 @@ ghost use Rattle.writer.specs.InCode.{writtenIs};
 
 mod filling;
 mod head;
+mod marking;
 mod number;
 mod put;
 mod row;
@@ -76,7 +78,7 @@ pub fn size(words: &[u64], text: &[u8]) -> Written
     }
 }
 
-// Puts the marks of a table to the end of its n bytes: from memory where they are near, or by sizing it again.
+// Puts the marks of a table to the end of its n bytes: from memory where they are near, or by going over its rows.
 fn put_marks(words: &[u64], text: &[u8], near: &[u8], n: usize, m: usize, out: &mut [u8])
     requires { ⌜ (m ≤ n) × Writable (now words) (now text) (now near) n m (now out) ⌝ }
     ensures { λ _. ⌜ now (out .exit) ≡ sets (now (out .entry)) (n - m) (marksIn (table levelMost (now (words .entry)) (now (text .entry)))) ⌝ }
@@ -86,7 +88,7 @@ fn put_marks(words: &[u64], text: &[u8], near: &[u8], n: usize, m: usize, out: &
         put::put_text(out, slot, near, 0, m);
         return;
     }
-    sizing::size_values(words, text, 1, kind::LEVELS, out, Extent::new(slot));
+    marking::mark_table(words, out, slot);
 }
 
 // Writes a table of n bytes with m bytes of marks.
