@@ -18,6 +18,7 @@ ghost use Rattle.writer.specs.Filling.{numberHead};
 ghost use Rattle.writer.specs.Marking.{boxes, fromStart, beyond, entered, closed, overArray, Elements, SomeElements, Going, Onward, Markable, Tabled};
 use crate::filling;
 use crate::head;
+use crate::put;
 use standard::kind;
 
 // Three numbers for each of 32 levels.
@@ -60,16 +61,6 @@ impl Point {
             top: self.top,
         }
     }
-}
-
-// Stores a mark.
-fn put_three(out: &mut [u8], at: usize, number: usize)
-    requires { ⌜ at + 3 ≤ length (now out) ⌝ }
-    ensures { λ _. ⌜ now (out .exit) ≡ sets (now (out .entry)) at (be 3 number) ⌝ }
-{
-    out[at] = (number / 0x1_0000 % 256) as u8;
-    out[at + 1] = (number / 0x100 % 256) as u8;
-    out[at + 2] = (number % 256) as u8;
 }
 
 // Is a row a list or a map that is not empty.
@@ -159,7 +150,7 @@ fn close(stack: &[usize], out: &mut [u8], c: Point) -> Point
 {
     let top = c.top - 3;
     let body = c.size - stack[top];
-    put_three(out, stack[top + 1], body);
+    put::put_three(out, stack[top + 1], body as u64);
     Point {
         row: c.row,
         size: c.size + head::compound_width(body),
@@ -196,7 +187,7 @@ fn take_array(words: &[u64], out: &mut [u8], c: Point, count: usize) -> Point
 {
     let next = c.row + 1;
     let body = 1 + size_elements(words, count, next);
-    put_three(out, c.mark, body);
+    put::put_three(out, c.mark, body as u64);
     Point {
         row: next + count,
         size: c.size + (head::compound_width(body) + body),

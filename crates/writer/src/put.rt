@@ -23,7 +23,7 @@ fn put_two(out: &mut [u8], at: usize, number: u64)
     out[at + 1] = (number % 256) as u8;
 }
 
-fn put_three(out: &mut [u8], at: usize, number: u64)
+pub(crate) fn put_three(out: &mut [u8], at: usize, number: u64)
     requires { ⌜ at + 3 ≤ length (now out) ⌝ }
     ensures { λ _. ⌜ now (out .exit) ≡ sets (now (out .entry)) at (be 3 number) ⌝ }
 {
