@@ -18,6 +18,7 @@ pub mod Tables
 pub mod Round
 pub mod Limits
 pub mod Ranges
+pub mod Longest
 pub mod Flat
 pub mod Flow
 pub mod Stores
