@@ -1,5 +1,5 @@
 -- Well-formed bytes as rows, one after another, with no recursion into values: what a reader that only fills rows may do.
--- What is due is kept as a stack of runs, of which there are at most as many as a value may take levels. `read-flow` of Laws/Flow.antt says that this gives
+-- What is due is kept as a stack of runs, of which there are at most as many as a value may take levels. `read-flow` of Flow.antt says that this gives
 -- the rows and the text of the value.
 use Prim.Native.Nat.{ℕ, zero, suc}
 use mathlib.Core.List.{List, [], _∷_, _++_}

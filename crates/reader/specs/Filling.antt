@@ -1,4 +1,4 @@
--- What filling is held to: the flat reading of Laws/Flat.antt of `standard`, in the terms of the code.
+-- What filling is held to: the flat reading of Flat.antt of `laws`, in the terms of the code.
 use Prim.Native.Nat.{ℕ, zero, suc, _+_, _*_, _≤_}
 use mathlib.Core.Path.{_≡_}
 use mathlib.Core.List.{List, []}

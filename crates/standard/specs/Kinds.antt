@@ -1,5 +1,5 @@
 -- The 25 kinds of rows: what the number and the text of each are held to, and how it is written (docs/FORMAT.md, 2.2 to 2.7 and 3).
--- That this table and the one of Codes.antt say the same of every kind is `agreement` of Laws/Written.antt.
+-- That this table and the one of Codes.antt say the same of every kind is `agreement` of Written.antt of `laws`.
 use Prim.Native.Nat.{ℕ, _%_, _^_}
 use mathlib.Core.Path.{_≡_, refl}
 use mathlib.Core.List.{List, [], _∷_}

@@ -1,5 +1,5 @@
 -- What stands before the text of a row: its format code, and its number or its size and count (docs/FORMAT.md, 3).
--- `compact-head` and `wide-head` of proofs/Heads.antt say that a value is its head, its text and its body.
+-- `compact-head` and `wide-head` of proofs/Bodies.antt say that a value is its head, its text and its body.
 use Prim.Native.Nat.{ℕ, _+_}
 use mathlib.Core.List.{List, [], _∷_, _++_}
 use lib.Dec.{eqb, ltb}
