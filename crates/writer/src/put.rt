@@ -232,34 +232,11 @@ pub(crate) fn put_letters(
         × (at + length (lettersRow (styleOf kind) (kind % 256) number (drop from (now text))) ≤ length (now out)) ⌝ }
     ensures { λ r. ⌜ Put (lettersRow (styleOf kind) (kind % 256) number (drop from (now (text .entry)))) (now (out .entry)) at (now (out .exit)) r ⌝ }
 {
+    let code = (kind % 256) as u8;
     match kind {
-        0xb0 => put_lettered(
-            out,
-            at,
-            format_code::BINARY_8,
-            format_code::BINARY_32,
-            number,
-            text,
-            from,
-        ),
-        0xb1 => put_lettered(
-            out,
-            at,
-            format_code::STRING_8,
-            format_code::STRING_32,
-            number,
-            text,
-            from,
-        ),
-        0xb3 => put_lettered(
-            out,
-            at,
-            format_code::SYMBOL_8,
-            format_code::SYMBOL_32,
-            number,
-            text,
-            from,
-        ),
+        0xb0 => put_lettered(out, at, format_code::BINARY_8, code, number, text, from),
+        0xb1 => put_lettered(out, at, format_code::STRING_8, code, number, text, from),
+        0xb3 => put_lettered(out, at, format_code::SYMBOL_8, code, number, text, from),
         _ => 0,
     }
 }

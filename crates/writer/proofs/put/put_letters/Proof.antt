@@ -23,13 +23,14 @@ unfolding styleOf lookup kinds letters head spelled lettersRow
 put-letters-spec =
     tie.close
     (tie.spec
-    (λ c κs. rw (c .before .match .keys1) at (c .before .before .before .before .pre))
-    (λ c κs. rw (c .before .match .keys2) at (c .before .before .before .before .pre))
-    (λ c κs. rw (c .before .match .keys3) at (c .before .before .before .before .pre))
     (λ c. search needs)
-    (λ c. rw (c .before .before .before .before .match .keys1) (c .before .before .put-lettered .ensures))
+    (λ c κs. rw (c .before .match .keys1) (rw (c .before .match .keys1) at (c .before .before .before .before .pre)))
+    (λ c κs. rw (c .before .match .keys2) (rw (c .before .match .keys2) at (c .before .before .before .before .pre)))
+    (λ c κs. rw (c .before .match .keys3) (rw (c .before .match .keys3) at (c .before .before .before .before .pre)))
     (λ c. search needs)
-    (λ c. rw (c .before .before .before .before .match .keys2) (c .before .before .put-lettered2 .ensures))
+    (λ c. rw (c .before .before .before .before .match .keys1) (rw (c .before .before .before .before .match .keys1) at (c .before .before .put-lettered .ensures)))
     (λ c. search needs)
-    (λ c. rw (c .before .before .before .before .match .keys3) (c .before .before .put-lettered3 .ensures))
+    (λ c. rw (c .before .before .before .before .match .keys2) (rw (c .before .before .before .before .match .keys2) at (c .before .before .put-lettered2 .ensures)))
+    (λ c. search needs)
+    (λ c. rw (c .before .before .before .before .match .keys3) (rw (c .before .before .before .before .match .keys3) at (c .before .before .put-lettered3 .ensures)))
     other)
