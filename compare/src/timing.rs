@@ -31,7 +31,11 @@ struct Times {
 /// False where the three do not agree on a shape, or the picture cannot be written.
 pub fn run(plan: &Plan) -> bool {
     report::heading("Times");
-    println!("ns of processor time a row, medians of {} rounds in which all take turns; {}.", plan.rounds, processor());
+    println!(
+        "ns of processor time a row, medians of {} rounds in which all take turns, and all tables too; {}.",
+        plan.rounds,
+        processor()
+    );
     println!(
         "{} rows but for the message. Ours: `afsungar_write` (which sizes first), `afsungar_read`, `afsungar_measure`. The crate",
         report::number(shapes::ROWS as u64)
@@ -41,10 +45,11 @@ pub fn run(plan: &Plan) -> bool {
     let mut agree = true;
     let mut writes = Vec::new();
     let mut reads = Vec::new();
-    for Shape { name, table } in shapes::all() {
-        agree &= same(&name, &table);
-        let t = times(&table, plan.rounds);
-        let depth = depth(&table).to_string();
+    let shapes = shapes::all();
+    let tables: Vec<_> = shapes.iter().map(|shape| &shape.table).collect();
+    for (Shape { name, table }, t) in shapes.iter().zip(times(&tables, plan.rounds)) {
+        agree &= same(name, table);
+        let depth = depth(table).to_string();
         let ratio = |other: f64, own: f64| format!("{:.2}", other / own);
         writes.push(vec![
             name.clone(),
@@ -57,7 +62,7 @@ pub fn run(plan: &Plan) -> bool {
             ratio(t.proton_write, t.write),
         ]);
         reads.push(vec![
-            name,
+            name.clone(),
             depth,
             ns(t.read),
             ns(t.measure),
@@ -86,13 +91,9 @@ fn ns(time: f64) -> String {
 /// Chains of ever more lists, as a table and as a picture.
 fn by_depth(plan: &Plan) -> bool {
     const LISTS: [usize; 10] = [0, 2, 5, 9, 13, 17, 20, 24, 27, 30];
-    let all: Vec<(f64, Times)> = LISTS
-        .iter()
-        .map(|&lists| {
-            let table = shapes::chains(lists);
-            (depth(&table) as f64, times(&table, plan.rounds))
-        })
-        .collect();
+    let tables = LISTS.map(shapes::chains);
+    let depths = tables.iter().map(|table| depth(table) as f64);
+    let all: Vec<(f64, Times)> = depths.zip(times(&tables.each_ref(), plan.rounds)).collect();
     let rows: Vec<_> = all
         .iter()
         .map(|(depth, t)| {
@@ -158,7 +159,31 @@ fn same(name: &str, table: &Table) -> bool {
     same
 }
 
-fn times(table: &Table, rounds: usize) -> Times {
+/// The median times of each table. The tables take turns, so that a slow phase of the machine meets all.
+fn times(tables: &[&Table], rounds: usize) -> Vec<Times> {
+    const TURNS: usize = 10;
+    let mut taken: Vec<[Vec<f64>; WORKS]> = tables.iter().map(|_| Default::default()).collect();
+    for turn in 0..TURNS {
+        let rounds = rounds * (turn + 1) / TURNS - rounds * turn / TURNS;
+        for (table, taken) in tables.iter().zip(&mut taken) {
+            sample(table, rounds, taken);
+        }
+    }
+    let median = |table: &Table, mut times: Vec<f64>| {
+        times.sort_by(f64::total_cmp);
+        times[times.len() / 2] / table.rows() as f64
+    };
+    let all = tables.iter().zip(taken).map(|(table, taken)| {
+        let [write, size, crate_write, proton_write, read, measure, proton_read] = taken.map(|times| median(table, times));
+        Times { write, size, crate_write, proton_write, read, measure, proton_read }
+    });
+    all.collect()
+}
+
+const WORKS: usize = 7;
+
+/// So many rounds of all that is done with a table, each work in its turn; the ns that each took go to `taken`.
+fn sample(table: &Table, rounds: usize, taken: &mut [Vec<f64>; WORKS]) {
     let Table { words, text } = table;
     let mut bytes = vec![0; ours::size(table).length as usize];
     ours::write(table, &mut bytes);
@@ -167,7 +192,7 @@ fn times(table: &Table, rounds: usize) -> Times {
     let (mut tree, mut read_tree) = (Data::new(), Data::new());
     tree.put(table).expect("Proton takes the table");
 
-    let mut works: [Box<dyn FnMut() + '_>; 7] = [
+    let mut works: [Box<dyn FnMut() + '_>; WORKS] = [
         Box::new(|| keep(afsungar::write(black_box(words), black_box(text), &mut out))),
         Box::new(|| keep(afsungar::size(black_box(words), black_box(text)))),
         Box::new(|| {
@@ -179,29 +204,16 @@ fn times(table: &Table, rounds: usize) -> Times {
         Box::new(|| keep(afsungar::measure(black_box(&bytes)))),
         Box::new(|| keep(read_tree.decode(black_box(&bytes)))),
     ];
-    let medians = medians(&mut works, rounds).map(|time| time / table.rows() as f64);
-    let [write, size, crate_write, proton_write, read, measure, proton_read] = medians;
-    Times { write, size, crate_write, proton_write, read, measure, proton_read }
-}
-
-/// The median time of each work, in ns. All take turns, so that a slow moment meets all.
-fn medians<const N: usize>(works: &mut [Box<dyn FnMut() + '_>; N], rounds: usize) -> [f64; N] {
     const SHORTEST: f64 = 200_000.0; // of a turn, in ns
-    let mut turn = [1usize; N];
-    for (work, turn) in works.iter_mut().zip(&mut turn) {
+    let turns = works.each_mut().map(|work| {
         time(work, 3);
-        *turn = (SHORTEST / time(work, 3)).ceil() as usize;
-    }
-    let mut taken = [(); N].map(|()| Vec::with_capacity(rounds));
+        (SHORTEST / time(work, 3)).ceil() as usize
+    });
     for _ in 0..rounds {
-        for i in 0..N {
-            taken[i].push(time(&mut works[i], turn[i]));
+        for ((work, turn), taken) in works.iter_mut().zip(turns).zip(taken.iter_mut()) {
+            taken.push(time(work, turn));
         }
     }
-    taken.map(|mut times| {
-        times.sort_by(f64::total_cmp);
-        times[times.len() / 2]
-    })
 }
 
 /// ns for one of so many times.
