@@ -2,15 +2,15 @@
 use Prim.Native.Nat.{ℕ, zero, suc, _≤_, _<_}
 use mathlib.Core.Path.{_≡_, refl, ap, _∙_}
 use mathlib.Core.List.{List}
-use mathlib.Core.Bool.{true, not, _&&_}
+use mathlib.Core.Bool.{true, not}
 use native.Mathlib.Omega.{arith}
 use borrow.Author.Tests.{le-leb}
-use lib.Dec.{T, eqb, eqb→eq, leb}
+use lib.Dec.{T, eqb, eqb→eq}
 use lib.ListN.{length, take}
 use Rattle.standard.specs.Bytes.{unbe}
 use Rattle.standard.specs.Codes.{Layout, unknown, described, scalar, compound, array, constant, whole, small, raw, sized, layoutOf, kindOf}
 use Rattle.standard.specs.Kinds.{fair}
-use Rattle.standard.specs.Read.{leaf, behind, payload}
+use Rattle.standard.specs.Read.{behind, payload}
 use Rattle.standard.specs.Facts.{and-left, and-right}
 use Rattle.reader.specs.Entries.{judged, plainCode, plainWidth}
 use Rattle.reader.specs.Measuring.{fits, measured, Plain}

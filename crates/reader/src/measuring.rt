@@ -132,7 +132,7 @@ fn sized(s: &[u8], width: usize, kind: u64, place: usize) -> Measured
         return refuse(refusal::INPUT_SHORT, place);
     }
     let end = width + count;
-    if !text::is_clean(kind, &s[width..end]) {
+    if !text::is_clean(kind, s, width, count) {
         return refuse(refusal::PAYLOAD_BAD, place);
     }
     Measured::Fits(Extent {

@@ -6,7 +6,7 @@ use lib.ListN.{replicate}
 use Rattle.standard.specs.Answer.{Answer, got, refuse, at}
 use Rattle.standard.specs.Choose.{lookup}
 use Rattle.standard.specs.Bytes.{be, spell}
-use Rattle.standard.specs.Text.{Fault, flawless, fault, faultIn, faultDue, leadIn, utf8, ascii}
+use Rattle.standard.specs.Text.{flawless, fault, faultIn, faultDue, leadIn, utf8, ascii}
 use Rattle.standard.specs.Codes.{codes, entryOf, isCode, filled, element}
 use Rattle.standard.specs.Kinds.{kinds, styleOf, isKind, plain as plainStyle, fair, flaw, paired}
 use Rattle.standard.specs.Tree.{rows, text, tall, count}

@@ -1,10 +1,10 @@
 -- The 25 kinds of rows: what the number and the text of each are held to, and how it is written (docs/FORMAT.md, 2.2 to 2.7 and 3).
 -- That this table and the one of Codes.antt say the same of every kind is `agreement` of Written.antt of `laws`.
-use Prim.Native.Nat.{ℕ, _%_, _^_}
+use Prim.Native.Nat.{ℕ, _%_}
 use mathlib.Core.Path.{_≡_, refl}
 use mathlib.Core.List.{List, [], _∷_}
 use mathlib.Core.Bool.{Bool, true, false, _&&_, _||_}
-use lib.Dec.{eqb, leb, ltb}
+use lib.Dec.{eqb, leb}
 use lib.ListN.{length}
 use Rattle.standard.specs.Choose.{if, lookup}
 use Rattle.standard.specs.Text.{Fault, flawless, isFlawless, utf8, ascii, faultIn}

@@ -1,7 +1,6 @@
 -- The text that the listing program prints for an input (docs/FORMAT.md, 8).
 use Prim.Native.Nat.{ℕ, zero, suc, _+_, _-_, _/_, _%_}
 use mathlib.Core.List.{List, [], _∷_, _++_}
-use mathlib.Core.Bool.{Bool}
 use lib.Dec.{leb, ltb}
 use lib.ListN.{length}
 use Rattle.standard.specs.Answer.{Answer, got, refuse, at}

@@ -1,5 +1,5 @@
 -- A value as a tree of rows. A table is a tree written down parent first (docs/FORMAT.md, 2.1).
-use Prim.Native.Nat.{ℕ, zero, suc, _+_}
+use Prim.Native.Nat.{ℕ, suc, _+_}
 use mathlib.Core.List.{List, [], _∷_, _++_}
 
 mutual

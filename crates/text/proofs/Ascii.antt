@@ -93,7 +93,7 @@ top-more text at i t u h e f =
 -- Faults
 
 -- UTF8-1
-abbrev single : Sequence
+abbrev pub single : Sequence
 single = sequence (from_to_ 0x00 0x7f) []
 
 run-fault : (ss : List Sequence) (p : ℕ) (bs : List ℕ) → faultDue (single ∷ ss) 0 (p + asciiRun bs) (drop (asciiRun bs) bs) [] ≡ faultDue (single ∷ ss) 0 p bs []

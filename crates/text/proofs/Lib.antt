@@ -1,3 +1,4 @@
 pub mod Sequences
 pub mod Ascii
+pub mod Parts
 pub mod Unique

@@ -12,6 +12,7 @@ use ghost.Atoms.{Atoms}
 use contract.Lifetimes.{Lfts}
 use contract.Monad.{Fun, fact}
 use denote.Ref.{RefT, now}
+use lib.ListN.{take, drop}
 use Rattle.standard.specs.Text
 use Rattle.standard.specs.Text.{utf8, ascii, faultIn}
 use Rattle.standard.specs.Kinds.{flaw, clean}
@@ -49,5 +50,5 @@ module _ {M : Type 1} (𝓤 : URA M) (H : Heap 𝓤) (κs : Lfts 1) (A : Atoms �
   pub flaw-promise : (k : ℕ) (t : RefT (List ℕ)) (r : Fault) → «flaw_of».ensures-1 𝓤 H κs A mem run k t (record { entry = k; exit = k }) (record { entry = t; exit = t }) r ≡ fact 𝓤 (faultIs r ≡ flaw k (now t))
   flaw-promise k t r = refl
 
-  pub clean-promise : (k : ℕ) (t : RefT (List ℕ)) (r : Bool) → «is_clean».ensures-1 𝓤 H κs A mem run k t (record { entry = k; exit = k }) (record { entry = t; exit = t }) r ≡ fact 𝓤 (r ≡ clean k (now t))
-  clean-promise k t r = refl
+  pub clean-promise : (k : ℕ) (t : RefT (List ℕ)) (s n : ℕ) (r : Bool) → «is_clean».ensures-1 𝓤 H κs A mem run k t s n (record { entry = k; exit = k }) (record { entry = t; exit = t }) (record { entry = s; exit = s }) (record { entry = n; exit = n }) r ≡ fact 𝓤 (r ≡ clean k (take n (drop s (now t))))
+  clean-promise k t s n r = refl

@@ -1,9 +1,9 @@
 // The text check: RFC 3629 for strings, ASCII for symbols (docs/FORMAT.md, 4.6).
 ghost use mathlib.Core.Path.{_≡_};
 ghost use mathlib.Core.List.{[], _∷_};
-ghost use Prim.Native.Nat.{_+_};
+ghost use Prim.Native.Nat.{_+_, _-_, _≤_, min};
 ghost use lib.Dec.{leb};
-ghost use lib.ListN.{drop};
+ghost use lib.ListN.{take, drop};
 ghost use Rattle.standard.specs.Text.{from_to_, tail, utf8, ascii, leadIn, faultIn};
 ghost use Rattle.standard.specs.Kinds.{flaw, clean};
 ghost use Rattle.text.specs.InCode.{faultIs};
@@ -178,10 +178,30 @@ pub fn flaw_of(kind: u64, text: &[u8]) -> Fault
     Fault::Flawless
 }
 
-pub fn is_clean(kind: u64, text: &[u8]) -> bool
-    ensures { λ r. ⌜ r ≡ clean kind (now (text .entry)) ⌝ }
+// The end of so many bytes from `start` on, or that of the text where it has fewer.
+fn end_of(length: usize, start: usize, count: usize) -> usize
+    requires { ⌜ start ≤ length ⌝ }
+    ensures { λ r. ⌜ r ≡ start + min count (length - start) ⌝ }
 {
-    match flaw_of(kind, text) {
+    if length - start < count {
+        return length;
+    }
+    start + count
+}
+
+// Whether so many bytes from `start` on are good text of a row of that kind; where there are fewer, those.
+// 16 bytes of ASCII are good for every kind: where they stand there, a short text needs no look at its own end.
+pub fn is_clean(kind: u64, text: &[u8], start: usize, count: usize) -> bool
+    ensures { λ r. ⌜ r ≡ clean kind (take count (drop start (now (text .entry)))) ⌝ }
+{
+    if count <= 16 && ascii_block(text, start) {
+        return true;
+    }
+    if text.len() < start {
+        return true;
+    }
+    let end = end_of(text.len(), start, count);
+    match flaw_of(kind, &text[start..end]) {
         Fault::Flawless => true,
         Fault::At(_) => false,
     }

@@ -1,5 +1,5 @@
 -- The checks of a row, one outcome after another.
-use Prim.Native.Nat.{ℕ, zero, suc, _+_, _*_, _-_, _≤_, _<_}
+use Prim.Native.Nat.{ℕ, zero, suc, _+_, _*_, _≤_, _<_}
 use mathlib.Core.Path.{_≡_, refl, sym, ap, _∙_}
 use mathlib.Core.List.{List, [], _∷_}
 use mathlib.Core.Bool.{Bool, true, false, not}
@@ -73,13 +73,8 @@ module _ (c : Spot) (i k n : ℕ) (w x : List ℕ) where
       check-good zero h e f = absurd (omega arith)
       check-good (suc l) h e f = rw (a, b, d, le-leb (letters (styleOf k) n) (length x) e, f)
 
--- what was found of a part of the text
-pub clean-run : (k : ℕ) (x : List ℕ) (a n : ℕ) (b d : Bool) → b ≡ clean k (take (a + n - a) (drop a x)) → b ≡ d → clean k (take n (drop a x)) ≡ d
-clean-run k x a n b d e g =
-    let j : a + n - a ≡ n = omega arith in
-    rw j at (sym e) ∙ g
-
-pub clean-part : (k m : ℕ) (x : List ℕ) (a n : ℕ) (s : Style) (b d : Bool) → b ≡ clean k (take (a + n - a) (drop a x)) → n ≡ letters s m → s ≡ styleOf k → b ≡ d → clean k (take (letters (styleOf k) m) (drop a x)) ≡ d
-clean-part k m x a n s b d e f h g =
+-- what was found of a row's text
+pub clean-part : (k m : ℕ) (x : List ℕ) (n : ℕ) (s : Style) (b d : Bool) → b ≡ clean k (take n x) → n ≡ letters s m → s ≡ styleOf k → b ≡ d → clean k (take (letters (styleOf k) m) x) ≡ d
+clean-part k m x n s b d e f h g =
     let j : n ≡ letters (styleOf k) m = rw h at f in
-    rw (← j) (clean-run k x a n b d e g)
+    rw (← j) (sym e ∙ g)

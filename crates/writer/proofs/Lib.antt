@@ -7,7 +7,9 @@ pub mod Rows
 pub mod Direct
 pub mod Sums
 pub mod Sizes
+pub mod Plain
 pub mod Turns
+pub mod Walks
 pub mod Whole
 pub mod Onward
 pub mod Writes

@@ -16,8 +16,8 @@ use Rattle.laws.specs.Numbers.{length-be}
 use Rattle.standard.proofs.Lookup.{Rest}
 use Rattle.writer.specs.Heads.{head}
 use Rattle.writer.proofs.Bodies.{head-short}
-use Rattle.writer.specs.Filling.{isNumber, isLettered}
-use Rattle.writer.specs.Sizing.{holder, opens, numberSize, textSize, lettersSize}
+use Rattle.writer.specs.Filling.{isNumber}
+use Rattle.writer.specs.Sizing.{holder, opens, numberSize, textSize}
 use Rattle.writer.proofs.Tabled.{kindsOnto, other}
 use Rattle.writer.proofs.Direct.{coded-long, flag-long}
 
@@ -116,10 +116,6 @@ module _ (k n : ℕ) (x : List ℕ) where
   pub text-good : n ≤ most → n ≤ length x → clean k (take n x) ≡ true → (z : ℕ) → z ≡ if (ltb n shortEnd) 2 5 → z + n ≡ textSize k n x
   unfolding textSize
   text-good h i e z f = rw (le-leb n most h, le-leb n (length x) i, e, f)
-
-  pub no-letters-kind : Rest (kindsOnto isLettered kinds []) k → 0 ≡ lettersSize (styleOf k) k n x
-  unfolding lettersSize
-  no-letters-kind r = rw (other isLettered refl k r)
 
 -- Open rows
 

@@ -2,10 +2,11 @@
 use Prim.Native.Nat.{ℕ, zero, suc, _+_, _*_, _-_, _/_, _%_, _^_, _≤_, _<_}
 use mathlib.Core.Path.{_≡_, refl, sym, ap, _∙_}
 use mathlib.Core.List.{List, [], _∷_, _++_}
-use native.Mathlib.Nat.{add-suc, div-div-eq-div-mul, pow-succ', div-one}
+use native.Mathlib.Nat.{add-zero, zero-add, add-suc, suc-add, div-div-eq-div-mul, pow-succ', div-one}
+use native.Mathlib.Numerals.{unary-clauses}
 use native.Mathlib.Omega.{arith}
 use lib.ListN.{length, take, drop, getD, set, length-append}
-use lib.Seq.{sets, set-comm, take-take, drop-cons, drop-set-lt}
+use lib.Seq.{sets, set-set, set-comm, take-nil, take-take, drop-cons, drop-drop, drop-set-lt}
 use Rattle.standard.specs.Bytes.{be, unbe, spell}
 use Rattle.laws.specs.Numbers.{length-be}
 use Rattle.laws.specs.Stores.{sets-append, drop-take}
@@ -77,9 +78,36 @@ none-left l at k n h = let e : k ≡ 0 = omega arith in rw e
 
 -- Text
 
--- what is left of a text of n bytes behind the first k
-abbrev pub left : (text : List ℕ) → (from n k : ℕ) → List ℕ
-left t j n k = take (n - k) (drop (j + k) t)
+-- four bytes one by one
+pub four-bytes : (l t : List ℕ) (i j : ℕ) → j + 4 ≤ length t → set (set (set (set l i (getD t j 0)) (i + 1) (getD t (j + 1) 0)) (i + 2) (getD t (j + 2) 0)) (i + 3) (getD t (j + 3) 0) ≡ sets l i (take 4 (drop j t))
+four-bytes l t i j h =
+    simp unary-clauses (rw (drop-cons t j 0 (omega arith), drop-cons t (suc j) 0 (omega arith), drop-cons t (suc (suc j)) 0 (omega arith), drop-cons t (suc (suc (suc j))) 0 (omega arith)))
+
+-- a run that is stored again, and more behind it
+again : (l y : List ℕ) (i a b : ℕ) → a ≤ b → sets (sets l i (take a y)) i (take b y) ≡ sets l i (take b y)
+again l y i zero b h = refl
+again l y i (suc a) zero h = absurd (omega arith)
+again l [] i (suc a) (suc b) h = refl
+again l (x ∷ y) i (suc a) (suc b) h =
+    let e = sets-swap (set l i x) i (x ∷ []) (suc i) (take a y) (omega arith) in
+    ap (λ (z : List ℕ). sets z (suc i) (take b y)) e ∙ rw set-set (again (set l i x) y (suc i) a b (omega arith))
+
+-- two runs that meet: the first a bytes of y, and then b of them from place m on
+overlap : (l y : List ℕ) (i m a b : ℕ) → m ≤ a → a ≤ m + b → sets (sets l i (take a y)) (i + m) (take b (drop m y)) ≡ sets l i (take (m + b) y)
+overlap l y i zero a b h g = rw (add-zero, zero-add) (again l y i a b (omega arith))
+overlap l y i (suc m) zero b h g = absurd (omega arith)
+overlap l [] i (suc m) (suc a) b h g = simp take-nil
+overlap l (x ∷ y) i (suc m) (suc a) b h g =
+    let e : i + suc m ≡ suc i + m = omega arith in
+    rw (e, suc-add m b) (overlap (set l i x) y (suc i) m a b (omega arith) (omega arith))
+
+-- n bytes are their first w and their last w, where these leave no gap
+pub both-ends : (l t : List ℕ) (i j n w : ℕ) → w ≤ n → n ≤ w + w → sets (sets l i (take w (drop j t))) (i + n - w) (take w (drop (j + n - w) t)) ≡ sets l i (take n (drop j t))
+both-ends l t i j n w h g =
+    let a : i + n - w ≡ i + (n - w) = omega arith in
+    let b : j + n - w ≡ j + (n - w) = omega arith in
+    let c : n - w + w ≡ n = omega arith in
+    rw (a, b, ← drop-drop (n - w) j t) (overlap l (drop j t) i (n - w) w w (omega arith) (omega arith) ∙ rw c)
 
 -- A head: a code, and two numbers
 

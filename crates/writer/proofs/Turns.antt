@@ -21,7 +21,7 @@ use Rattle.writer.specs.Heads.{enclosure, head, itemWidth}
 use Rattle.writer.specs.Marks.{markWidth, marks, marks*}
 use Rattle.writer.specs.Filling.{elementsOf}
 use Rattle.writer.specs.Rows.{check}
-use Rattle.writer.specs.Sizing.{total, totalFrom, Marked, headSize, codeWidth, values, sizeIn, Sure, holder, opens, numberSize, textSize, lettersSize, alone, takenOf, start, past, Within, Comes, Rowed}
+use Rattle.writer.specs.Sizing.{total, totalFrom, Marked, headSize, codeWidth, values, sizeIn, Sure, holder, opens, numberSize, textSize, lettersSize, alone, takenOf, begin, past, Within, Comes, Rowed}
 use Rattle.standard.specs.declared.refusal.Refusal.{Refusal}
 use Rattle.writer.specs.declared.sizing.Sized.{Sized}
 use Rattle.writer.specs.declared.sizing.Sized.the-variants.{Fits, Refused}
@@ -282,6 +282,22 @@ module _ (l k n : ℕ) (w x : List ℕ) (h : 0 < l) (b : Bool) (e : b ≡ opens 
           go zero (suc y) o p = absurd (omega arith)
           go (suc z) y o p = absurd (omega arith)
 
+-- a row that is a number is not open
+number-closed : (s : Style) (k n : ℕ) → 0 < numberSize s k n → false ≡ opens s k n
+unfolding numberSize holder opens
+number-closed foreign k n h = refl
+number-closed (numbered s w) k n h = refl
+number-closed (blob w) k n h = refl
+number-closed (lettered s) k n h = refl
+number-closed (listed a s) k n h = absurd (omega arith)
+number-closed (mapped s) k n h = absurd (omega arith)
+number-closed (arrayed s) k n h = refl
+number-closed describing k n h = absurd (omega arith)
+
+-- so its size decides alone
+pub taken-plain : (l k n : ℕ) (w x : List ℕ) → 0 < l → (z : ℕ) → z ≡ numberSize (styleOf k) k n → 0 < z → Number z ≡ takenOf l (k ∷ n ∷ w) x
+taken-plain l k n w x h z e i = taken-number l k n w x h false (number-closed (styleOf k) k n (omega (arith, e))) refl z e i
+
 -- Turns
 
 -- a place with other fields that are the same
@@ -316,7 +332,7 @@ module _ (w x : List ℕ) (l : ℕ) (o : Extent) (n : ℕ) (b : List ℕ) (g : W
     leaf-within : Within w x (past o y z)
     leaf-within = leaf-adds (Within w x) (turn-within w x l any o n b g tt h (leaf-at .kind) (leaf-at .number) leaf-checked _ b leaf-entered _ refl)
 
-    leaf-comes : Comes w x l any o n b any (past o y z) (n - 1) b
+    pub leaf-comes : Comes w x l any o n b any (past o y z) (n - 1) b
     unfolding next
     leaf-comes =
         leaf-adds (λ e. Comes w x l any o n b any e (n - 1) b)
@@ -326,9 +342,6 @@ module _ (w x : List ℕ) (l : ℕ) (o : Extent) (n : ℕ) (b : List ℕ) (g : W
     leaf-sums p q =
         let v = leaf-within in
         (omega (arith, v .rows), omega (arith, v .letters), omega (arith, v .small, v .rows, v .letters))
-
-    pub leaf-turn : {o₀ : Extent} {n₀ : ℕ} {b₀ : List ℕ} → Comes w x l any o₀ n₀ b₀ any o n b → (d : Extent) → d ≡ past o y z → Within w x d × Comes w x l any o₀ n₀ b₀ any d (n - 1) b
-    leaf-turn p d e = rw e (leaf-within, comes-on p leaf-comes)
 
   -- an open row of kind k with m children, of which y is found
   module _ (k m : ℕ) (t : takenOf l (drop (2 * (o .row)) w) (drop (o .text) x) ≡ Open k m) (width : ℕ) (i : width ≡ if (eqb k 0) 0 3) (y : Sized) (b₁ : List ℕ)
@@ -580,5 +593,5 @@ module _ (w x : List ℕ) (l : ℕ) (o : Extent) (b : List ℕ) (g : Within w x 
         )
 
 -- the beginning of a table
-pub at-start : (w x : List ℕ) (m : ℕ) → m ≤ 2 ^ 62 → Within w x (start m)
-at-start w x m h = record { rows = omega arith; letters = omega arith; marked = omega arith; small = omega arith }
+pub at-start : (w x : List ℕ) → Within w x begin
+at-start w x = record { rows = omega arith; letters = omega arith; marked = omega arith; small = omega arith }

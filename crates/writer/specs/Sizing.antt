@@ -1,11 +1,12 @@
 -- What sizing finds of values that stand one after another in a table.
-use Prim.Native.Nat.{ℕ, zero, suc, _+_, _*_, _-_, _%_, _^_, _≤_, _<_}
+use Prim.Native.Nat.{ℕ, zero, suc, _+_, _*_, _-_, _/_, _%_, _^_, _≤_, _<_}
 use mathlib.Core.Path.{_≡_}
 use mathlib.Core.List.{List, [], _∷_}
 use mathlib.Core.Bool.{Bool, true, false, _&&_}
 use lib.Dec.{T, eqb, leb, ltb}
 use lib.ListN.{length, take, drop}
 use lib.Seq.{sets}
+use Rattle.standard.specs.Bytes.{be}
 use Rattle.standard.specs.Choose.{if}
 use Rattle.standard.specs.Answer.{Answer, got, refuse, at}
 use Rattle.standard.specs.Tree.{Trees, tall*, text*}
@@ -95,6 +96,15 @@ numberSize (mapped s) k n = 0
 numberSize (arrayed s) k n = 0
 numberSize describing k n = 0
 
+-- Kinds of numbers of which the code decides by themselves: `plain-suits` of proofs/Plain.antt holds them against the table
+
+-- with that upper half those below this are plain, by their lower half
+abbrev pub plainBelow : (upper : ℕ) → ℕ
+plainBelow h = if (eqb h 4) 1 (if (eqb h 5) 2 (if (eqb h 6) 2 (if (eqb h 7) 3 (if (eqb h 8) 5 0))))
+
+unfoldable pub plainKind : (kind : ℕ) → Bool
+plainKind k = ltb (k % 16) (plainBelow (k / 16))
+
 -- the bytes of a text of kind k and length n with its code and its length; 0 where it is not all there, or not good
 unfoldable pub textSize : (kind number : ℕ) → (text : List ℕ) → ℕ
 textSize k n x = if (leb n most && (leb n (length x) && clean k (take n x))) (if (ltb n shortEnd) 2 5 + n) 0
@@ -121,17 +131,30 @@ takenOf (suc l) (k ∷ n ∷ w) x = if (opens (styleOf k) k n) (Open k n) (alone
 
 -- A place in a table
 
-abbrev pub start : (mark : ℕ) → Extent
-start m = record { row = 0; text = 0; size = 0; mark = m }
+-- the first row of a table
+abbrev pub begin : Extent
+begin = record { row = 0; text = 0; size = 0; mark = 0 }
 
 abbrev pub past : Extent → (letters size : ℕ) → Extent
 past o n z = record { row = o .row + 1; text = o .text + n; size = o .size + z; mark = o .mark }
+
+-- at the first value in an open row
+abbrev pub inside : Extent → (kind : ℕ) → Extent
+inside o k = record { row = o .row + 1; text = o .text; size = 0; mark = o .mark + if (eqb k 0) 0 3 }
+
+-- behind its last one, which is before e, where s bytes are before the row
+abbrev pub closed : (s kind : ℕ) → Extent → Extent
+closed s k e = record { row = e .row; text = e .text; size = s + (if (eqb k 0) 1 (if (ltb (e .size) shortEnd) 3 9) + e .size); mark = e .mark }
+
+-- its mark stands in a buffer, if there is room for it
+abbrev pub MarkPut : (before : List ℕ) → (place kind body : ℕ) → (after : List ℕ) → Type 0
+MarkPut b p k n a = p + if (eqb k 0) 0 3 ≤ length b → a ≡ sets b p (be (if (eqb k 0) 0 3) n)
 
 -- its rows and text are there, and its sums are small
 pub record Within (words text : List ℕ) (o : Extent) : Type 0 where
   pub rows : 2 * (o .row) ≤ length words
   pub letters : o .text ≤ length text
-  pub marked : o .mark ≤ 2 ^ 62 + 3 * (o .row)
+  pub marked : o .mark ≤ 3 * (o .row)
   pub small : o .size ≤ 10 * (o .row) + o .text
 
 -- n values from o on, at spot c and over the buffer b, come to m values from e on, at spot d and over a

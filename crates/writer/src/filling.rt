@@ -19,7 +19,7 @@ use standard::kind;
 use standard::kind::Style;
 
 // A mark's bytes.
-const MARK_WIDTH: usize = 3;
+pub(crate) const MARK_WIDTH: usize = 3;
 
 // The next row and its text, where it is written, the next mark, and how many elements of an array are due.
 pub struct Cursor {

@@ -28,8 +28,8 @@ use standard::kind;
 use standard::refusal;
 use standard::refusal::Refusal;
 
-// So many bytes of marks are kept beside the output: those of 64 compounds.
-const NEAR: usize = 192;
+// So many bytes of marks are kept beside the output: those of 256 compounds.
+const NEAR: usize = 768;
 
 // The length in bytes of what is written, or why nothing is.
 pub enum Written {
@@ -51,7 +51,7 @@ fn size_table(words: &[u64], text: &[u8], marks: &mut [u8]) -> Sized
     if n % 2 == 1 {
         return refuse(refusal::ROWS_AMISS, 0);
     }
-    let all = sizing::size_values(words, text, 1, kind::LEVELS, marks, Extent::new(0));
+    let all = sizing::size_values(words, text, 1, kind::LEVELS, marks, Extent::new());
     let Sized::Fits(e) = all else {
         return all;
     };

@@ -23,6 +23,7 @@ fn put_two(out: &mut [u8], at: usize, number: u64)
     out[at + 1] = (number % 256) as u8;
 }
 
+// A mark.
 pub(crate) fn put_three(out: &mut [u8], at: usize, number: u64)
     requires { ⌜ at + 3 ≤ length (now out) ⌝ }
     ensures { λ _. ⌜ now (out .exit) ≡ sets (now (out .entry)) at (be 3 number) ⌝ }
@@ -91,15 +92,26 @@ pub(crate) fn put_be(out: &mut [u8], at: usize, width: usize, number: u64)
         put_two(out, at, number);
         return;
     }
-    if width == 3 {
-        put_three(out, at, number);
-        return;
-    }
     put_wide(out, at, width, number);
 }
 
-// So many bytes of a text from `from` on.
-pub(crate) fn put_text(out: &mut [u8], at: usize, text: &[u8], from: usize, count: usize)
+// Four bytes of a text from `from` on.
+fn copy_four(out: &mut [u8], at: usize, text: &[u8], from: usize)
+    requires { ⌜ (at + 4 ≤ length (now out)) × (from + 4 ≤ length (now text)) ⌝ }
+    ensures { λ _. ⌜ now (out .exit) ≡ sets (now (out .entry)) at (take 4 (drop from (now (text .entry)))) ⌝ }
+{
+    let a = text[from];
+    let b = text[from + 1];
+    let c = text[from + 2];
+    let d = text[from + 3];
+    out[at] = a;
+    out[at + 1] = b;
+    out[at + 2] = c;
+    out[at + 3] = d;
+}
+
+// So many bytes of a text from `from` on, one by one.
+fn copy_all(out: &mut [u8], at: usize, text: &[u8], from: usize, count: usize)
     requires { ⌜ (at + count ≤ length (now out)) × (from + count ≤ length (now text)) ⌝ }
     ensures { λ _. ⌜ now (out .exit) ≡ sets (now (out .entry)) at (take count (drop from (now (text .entry)))) ⌝ }
 {
@@ -108,6 +120,21 @@ pub(crate) fn put_text(out: &mut [u8], at: usize, text: &[u8], from: usize, coun
         out[at + k] = text[from + k];
         k += 1;
     }
+}
+
+// The same. A short text is two runs of four, which may overlap: the processor would guess the end of a loop wrong.
+pub(crate) fn put_text(out: &mut [u8], at: usize, text: &[u8], from: usize, count: usize)
+    requires { ⌜ (at + count ≤ length (now out)) × (from + count ≤ length (now text)) ⌝ }
+    ensures { λ _. ⌜ now (out .exit) ≡ sets (now (out .entry)) at (take count (drop from (now (text .entry)))) ⌝ }
+{
+    if 4 <= count {
+        if count <= 8 {
+            copy_four(out, at, text, from);
+            copy_four(out, at + count - 4, text, from + count - 4);
+            return;
+        }
+    }
+    copy_all(out, at, text, from, count);
 }
 
 // A code, and a number of so many bytes behind it. This and the functions below give the number of bytes that they write.

@@ -70,8 +70,7 @@ pub(crate) fn check_row(
     if letters.len() - from < count {
         return Checked::Bad(refusal::TEXT_AMISS);
     }
-    let end = from + count;
-    if !text::is_clean(kind, &letters[from..end]) {
+    if !text::is_clean(kind, letters, from, count) {
         return Checked::Bad(refusal::TEXT_AMISS);
     }
     Checked::Good(style, kind, number)

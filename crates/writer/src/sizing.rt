@@ -1,5 +1,6 @@
 // Sizing: the checks of all rows and the bytes that they will be written to (docs/FORMAT.md, 6.1).
 ghost use mathlib.Core.Path.{_≡_};
+ghost use mathlib.Core.List.{[], _∷_};
 ghost use Prim.Native.Nat.{_+_, _*_, _^_, _≤_, _<_};
 ghost use lib.Dec.{eqb, ltb};
 ghost use lib.ListN.{length, drop};
@@ -12,8 +13,9 @@ ghost use Rattle.standard.specs.Table.{any, first, next};
 ghost use Rattle.standard.specs.InCode.{styleIs};
 ghost use Rattle.standard.specs.Encode.{shortEnd};
 ghost use Rattle.writer.specs.InCode.{spotIs};
+ghost use Rattle.writer.specs.Filling.{isLettered};
 ghost use Rattle.writer.specs.Rows.{check};
-ghost use Rattle.writer.specs.Sizing.{opens, textSize, lettersSize, takenOf, other, codeWidth, values, totalFrom, Marked, Within, start, past, Rowed};
+ghost use Rattle.writer.specs.Sizing.{opens, textSize, lettersSize, takenOf, other, codeWidth, values, totalFrom, Marked, Within, begin, past, inside, closed, MarkPut, Rowed};
 use crate::filling;
 use crate::head;
 use crate::number;
@@ -25,6 +27,14 @@ use standard::kind;
 use standard::kind::Style;
 use standard::refusal::Refusal;
 
+// One call takes so many levels.
+const NEST: usize = 8;
+
+// An open row is four numbers on the stack: the bytes before it, the place of its mark, how many values are due behind it, and its kind.
+const FRAME: usize = 4;
+
+const STACK: usize = 32;
+
 // What is behind values: the next row and its text, the bytes that they take, and the next mark.
 pub struct Extent {
     pub row: usize,
@@ -35,14 +45,14 @@ pub struct Extent {
 
 impl Extent {
     // At the first row of a table.
-    pub fn new(mark: usize) -> Self
-        ensures { λ r. ⌜ r ≡ start mark ⌝ }
+    pub fn new() -> Self
+        ensures { λ r. ⌜ r ≡ begin ⌝ }
     {
         Self {
             row: 0,
             text: 0,
             size: 0,
-            mark,
+            mark: 0,
         }
     }
 
@@ -56,6 +66,19 @@ impl Extent {
             text: self.text + letters,
             size: self.size + size,
             mark: self.mark,
+        }
+    }
+
+    // At the first value in an open row.
+    fn inside(self, kind: u64) -> Self
+        requires { ⌜ (self .row + 1 < 2 ^ 64) × (self .mark + 3 < 2 ^ 64) ⌝ }
+        ensures { λ r. ⌜ r ≡ inside self kind ⌝ }
+    {
+        Self {
+            row: self.row + 1,
+            text: self.text,
+            size: 0,
+            mark: self.mark + open_mark(kind),
         }
     }
 }
@@ -109,8 +132,7 @@ fn size_text(kind: u64, number: u64, letters: &[u8], from: usize) -> usize
     if letters.len() - from < count {
         return 0;
     }
-    let end = from + count;
-    if !text::is_clean(kind, &letters[from..end]) {
+    if !text::is_clean(kind, letters, from, count) {
         return 0;
     }
     if number < head::SHORT_END {
@@ -119,17 +141,26 @@ fn size_text(kind: u64, number: u64, letters: &[u8], from: usize) -> usize
     5 + count
 }
 
-// The bytes of letters, by their kind; 0 where the kind holds none.
+fn is_lettered(kind: u64) -> bool
+    ensures { λ r. ⌜ r ≡ isLettered (styleOf kind) ⌝ }
+{
+    match kind {
+        0xb0 => true,
+        0xb1 => true,
+        0xb3 => true,
+        _ => false,
+    }
+}
+
+// The bytes of letters; 0 where the kind holds none.
 fn size_letters(kind: u64, number: u64, letters: &[u8], from: usize) -> usize
     requires { ⌜ from ≤ length (now letters) ⌝ }
     ensures { λ r. ⌜ r ≡ lettersSize (styleOf kind) kind number (drop from (now (letters .entry))) ⌝ }
 {
-    match kind {
-        0xb0 => size_text(0xb0, number, letters, from),
-        0xb1 => size_text(0xb1, number, letters, from),
-        0xb3 => size_text(0xb3, number, letters, from),
-        _ => 0,
+    if is_lettered(kind) {
+        return size_text(kind, number, letters, from);
     }
+    0
 }
 
 // The row at `row`, whose text begins at `from`, where so many levels are left.
@@ -146,6 +177,10 @@ fn take_row(words: &[u64], text: &[u8], row: usize, from: usize, levels: usize) 
     }
     let kind = words[k];
     let number = words[k + 1];
+    let size = number::plain_size(kind, number);
+    if 0 < size {
+        return Taken::Number(size);
+    }
     if is_open(kind, number) {
         return Taken::Open(kind, number as usize);
     }
@@ -194,14 +229,17 @@ fn code_width(style: Style, number: u64) -> usize
 
 // Stores a mark where there is room for it.
 fn put_mark(marks: &mut [u8], at: usize, width: usize, body: usize)
-    requires { ⌜ at + width < 2 ^ 64 ⌝ }
+    requires { ⌜ ((width ≡ 0 → ⊥) → width ≡ 3) ⌝ }
     ensures { λ _. ⌜ (at + width ≤ length (now (marks .entry)) → now (marks .exit) ≡ sets (now (marks .entry)) at (be width body)) ⌝ }
 {
     if width == 0 {
         return;
     }
-    if at + width <= marks.len() {
-        put::put_be(marks, at, width, body as u64);
+    if marks.len() < filling::MARK_WIDTH {
+        return;
+    }
+    if at <= marks.len() - filling::MARK_WIDTH {
+        put::put_three(marks, at, body as u64);
     }
 }
 
@@ -301,7 +339,7 @@ fn open_mark(kind: u64) -> usize
     if kind == 0x00 {
         return 0;
     }
-    3
+    filling::MARK_WIDTH
 }
 
 fn open_head(kind: u64, body: usize) -> usize
@@ -313,7 +351,44 @@ fn open_head(kind: u64, body: usize) -> usize
     head::compound_width(body)
 }
 
-// So many values, the first of them at `start`, where so many levels are left. Only rows with children need a call.
+// Puts an open row onto the stack, with so many values due behind it.
+fn push(stack: &mut [usize], depth: usize, c: Extent, left: usize, kind: u64)
+    requires { ⌜ 4 * depth + 4 ≤ length (now stack) ⌝ }
+    ensures { λ _. ⌜ now (stack .exit) ≡ sets (now (stack .entry)) (4 * depth) (c .size ∷ c .mark ∷ left ∷ kind ∷ []) ⌝ }
+{
+    let k = FRAME * depth;
+    stack[k] = c.size;
+    stack[k + 1] = c.mark;
+    stack[k + 2] = left;
+    stack[k + 3] = kind as usize;
+}
+
+// Behind the last value of an open row, which has so many bytes before it and its mark at that place.
+fn close(marks: &mut [u8], size: usize, mark: usize, kind: u64, c: Extent) -> Extent
+    requires { ⌜ size + 9 + c .size < 2 ^ 64 ⌝ }
+    ensures { λ r. ⌜ (r ≡ closed size kind c) × MarkPut (now (marks .entry)) mark kind (c .size) (now (marks .exit)) ⌝ }
+{
+    put_mark(marks, mark, open_mark(kind), c.size);
+    Extent {
+        row: c.row,
+        text: c.text,
+        size: size + (open_head(kind, c.size) + c.size),
+        mark: c.mark,
+    }
+}
+
+// Are values due, or rows open.
+fn is_due(left: usize, depth: usize) -> bool
+    ensures { λ r. ⌜ r ≡ ltb 0 (left + depth) ⌝ }
+{
+    if 0 < left {
+        return true;
+    }
+    0 < depth
+}
+
+// So many values, the first of them at `start`, where so many levels are left. The rows that are open are on a stack, as far as it goes; below that
+// sizing calls itself on the child rows.
 pub(crate) fn size_values(
     words: &[u64],
     text: &[u8],
@@ -326,39 +401,50 @@ pub(crate) fn size_values(
     ensures { λ r. ⌜ (r ≡ totalFrom any start (values (now (words .entry)) (now (text .entry)) levels any count (start .row) (start .text)))
         × Marked (now (marks .entry)) (start .mark) (now (marks .exit)) (values (now (words .entry)) (now (text .entry)) levels any count (start .row) (start .text)) ⌝ }
 {
+    let mut stack = [0usize; STACK];
+    let mut depth: usize = 0;
     let mut c = start;
     let mut left = count;
-    while 0 < left {
-        left -= 1;
-        match take_row(words, text, c.row, c.text, levels) {
-            Taken::Number(size) => c = c.past(0, size),
-            Taken::Letters(letters, size) => c = c.past(letters, size),
-            Taken::Open(kind, children) => {
-                let width = open_mark(kind);
-                let first = Extent {
-                    row: c.row + 1,
-                    text: c.text,
-                    size: 0,
-                    mark: c.mark + width,
-                };
-                let below = size_values(words, text, children, levels - 1, marks, first);
-                let Sized::Fits(e) = below else {
-                    return below;
-                };
-                put_mark(marks, c.mark, width, e.size);
-                c = Extent {
-                    row: e.row,
-                    text: e.text,
-                    size: c.size + (open_head(kind, e.size) + e.size),
-                    mark: e.mark,
-                };
-            }
-            Taken::Other => {
-                let one = size_row(words, text, levels, marks, c);
-                let Sized::Fits(e) = one else {
-                    return one;
-                };
-                c = e;
+    while is_due(left, depth) {
+        if left == 0 {
+            depth -= 1;
+            let k = FRAME * depth;
+            left = stack[k + 2];
+            c = close(marks, stack[k], stack[k + 1], stack[k + 3] as u64, c);
+        } else {
+            left -= 1;
+            match take_row(words, text, c.row, c.text, levels - depth) {
+                Taken::Number(size) => c = c.past(0, size),
+                Taken::Letters(letters, size) => c = c.past(letters, size),
+                Taken::Open(kind, children) => {
+                    let first = c.inside(kind);
+                    if depth < NEST {
+                        push(&mut stack, depth, c, left, kind);
+                        depth += 1;
+                        c = first;
+                        left = children;
+                    } else {
+                        let below = size_values(
+                            words,
+                            text,
+                            children,
+                            levels - depth - 1,
+                            marks,
+                            first,
+                        );
+                        let Sized::Fits(e) = below else {
+                            return below;
+                        };
+                        c = close(marks, c.size, c.mark, kind, e);
+                    }
+                }
+                Taken::Other => {
+                    let one = size_row(words, text, levels - depth, marks, c);
+                    let Sized::Fits(e) = one else {
+                        return one;
+                    };
+                    c = e;
+                }
             }
         }
     }

@@ -15,7 +15,7 @@ size-table-spec =
     (λ c κs. search needs)
     (λ c. rw (c .refuse .ensures) (odd-no levelMost _ _ (c .before .if1 .taken)))
     (λ c κs. search needs)
-    (λ c κs. rw (c .new .ensures) (at-start _ _ _ (omega arith)))
+    (λ c κs. rw (c .new .ensures) (at-start _ _))
     (λ c. search needs)
     (λ c. search needs)
     (λ c. search needs)

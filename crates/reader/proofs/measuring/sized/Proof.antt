@@ -1,6 +1,5 @@
 -- `sized` makes the checks of the definition in its order.
-use Prim.Native.Nat.{_+_, _-_}
-use mathlib.Core.Path.{_≡_, sym, _∙_}
+use mathlib.Core.Path.{sym, _∙_}
 use mathlib.Core.Bool.{not}
 use native.Mathlib.Omega.{arith}
 use borrow.Author.Needs.{needs}
@@ -23,18 +22,13 @@ sized-spec =
     (λ c κs. search needs)
     (λ c. c .refuse2 .ensures ∙ sym (sized-beyond (c .before .before .before .before .before .args .width) (c .before .before .before .before .before .args .kind) (c .before .before .before .before .before .args .place) (c .before .before .narrow-at .result) (c .before .before .before .before .before .args .s .now) (c .before .before .before .if1 .left) (c .before .before .narrow-at .ensures .0) (c .before .if2 .taken)))
     (λ c. search needs)
-    (λ c. search needs)
-    (λ c. search needs)
-    (λ c. search needs)
     (λ c κs. search needs)
     (λ c κs. search needs)
-    (λ c.
-    let a = c .before .before .before .before .before .before .before .before .args in
-    let n = c .before .before .before .before .before .narrow-at .result in
-    let e : (a .width + n) - a .width ≡ n = omega arith in
-    c .refuse3 .ensures ∙ sym (sized-bad (a .width) (a .kind) (a .place) n (a .s .now) (c .before .before .before .before .before .before .if1 .left) (c .before .before .before .before .before .narrow-at .ensures .0) (c .before .before .before .before .if2 .left) (and-left (not (judged (a .kind))) (narrow (a .width)) (c .before .before .before .before .before .before .before .before .pre)) (sym (rw e at (c .before .before .is-clean .ensures)) ∙ not-true _ (c .before .if3 .taken))))
     (λ c.
     let a = c .before .before .before .before .before .before .before .args in
     let n = c .before .before .before .before .narrow-at .result in
-    let e : (a .width + n) - a .width ≡ n = omega arith in
-    sym (sized-good (a .width) (a .kind) (a .place) n (a .s .now) (c .before .before .before .before .before .if1 .left) (c .before .before .before .before .narrow-at .ensures .0) (c .before .before .before .if2 .left) (and-left (not (judged (a .kind))) (narrow (a .width)) (c .before .before .before .before .before .before .before .pre)) (sym (rw e at (c .before .is-clean .ensures)) ∙ not-false _ (c .if3 .left)))))
+    c .refuse3 .ensures ∙ sym (sized-bad (a .width) (a .kind) (a .place) n (a .s .now) (c .before .before .before .before .before .if1 .left) (c .before .before .before .before .narrow-at .ensures .0) (c .before .before .before .if2 .left) (and-left (not (judged (a .kind))) (narrow (a .width)) (c .before .before .before .before .before .before .before .pre)) (sym (c .before .before .is-clean .ensures) ∙ not-true _ (c .before .if3 .taken))))
+    (λ c.
+    let a = c .before .before .before .before .before .before .args in
+    let n = c .before .before .before .narrow-at .result in
+    sym (sized-good (a .width) (a .kind) (a .place) n (a .s .now) (c .before .before .before .before .if1 .left) (c .before .before .before .narrow-at .ensures .0) (c .before .before .if2 .left) (and-left (not (judged (a .kind))) (narrow (a .width)) (c .before .before .before .before .before .before .pre)) (sym (c .before .is-clean .ensures) ∙ not-false _ (c .if3 .left)))))

@@ -1,7 +1,6 @@
 -- `fresh` stays within the output, and ends.
 use Prim.Native.Nat.{_-_}
 use mathlib.Core.Path.{_≡_}
-use native.Mathlib.Omega.{arith}
 use borrow.Author.Needs.{needs}
 use lib.ListN.{length, length-set}
 use Rattle.vectors.proofs.writing.fresh.Statement.{statement}

@@ -23,7 +23,4 @@ put-be-spec =
     (λ c. rw (c .before .before .before .before .if4 .taken) (c .before .before .put-two .ensures))
     (λ c κs. search needs)
     (λ c. search needs)
-    (λ c. rw (c .before .before .before .before .if5 .taken) (c .before .before .put-three .ensures))
-    (λ c κs. search needs)
-    (λ c. search needs)
     (λ c. search needs))

@@ -1,23 +1,23 @@
--- `size_values` finds of so many values what the definition says. A number, letters and any other row without children are taken in one turn; what is below an open row
--- is sized by a call of the function itself with one level less. Invariant: what is left from here comes to what was due at the start.
-use Prim.Native.Nat.{ℕ, _+_, _-_, _<_}
-use mathlib.Core.Path.{sym, _∙_, subst}
+-- `size_values` finds of so many values what the definition says. A number, letters and any other row without children are taken in one turn; an open row goes onto
+-- the stack, and where that is full its values are sized by a call of the function itself with fewer levels. Invariant: whatever sizing ends with from here is what was due at the start.
+use Prim.Native.Nat.{ℕ, _+_, _*_, _-_, _<_}
+use mathlib.Core.Path.{refl, sym, _∙_, subst}
 use native.Mathlib.Omega.{arith}
 use borrow.Author.Needs.{needs}
 use borrow.Fn.Kinds.{In}
 use borrow.Fn.PlainCycle.{Measures, is, falls, and}
-use Rattle.standard.specs.Table.{any}
-use Rattle.writer.specs.Sizing.{Within, Comes, Rowed}
-use Rattle.writer.specs.declared.sizing.Extent.{Extent}
-use Rattle.writer.proofs.Sums.{comes-self, comes-on, comes-end, comes-no}
-use Rattle.writer.proofs.Turns.{number-taken, letters-taken, leaf-sums, leaf-turn, open-first, open-no, open-within, open-comes}
+use lib.ListN.{length}
+use Rattle.writer.specs.Sizing.{Rowed}
+use Rattle.writer.proofs.Turns.{number-taken, letters-taken, leaf-sums, leaf-comes, open-first, open-no, open-within, open-comes}
+use Rattle.writer.proofs.Walks.{Walks, due, not-due, ends-whole, walk-start, walk-within, walk-on, walk-less, walk-no, walk-end, walk-open, walk-sums, walk-close}
 use Rattle.writer.proofs.sizing.size_values.Reads as size-values
 use Rattle.writer.proofs.sizing.size_values.Kinds as size-values-kinds
 use Rattle.writer.proofs.sizing.+size_values.Lts-size_values as size-values-lts
+use Rattle.writer.proofs.sizing.Extent.inside.Reads as inside-reads
 use Rattle.writer.proofs.sizing.Extent.past.Reads as past-reads
-use Rattle.writer.proofs.sizing.open_head.Reads as open-head-reads
-use Rattle.writer.proofs.sizing.open_mark.Reads as open-mark-reads
-use Rattle.writer.proofs.sizing.put_mark.Reads as put-mark-reads
+use Rattle.writer.proofs.sizing.close.Reads as close-reads
+use Rattle.writer.proofs.sizing.is_due.Reads as is-due-reads
+use Rattle.writer.proofs.sizing.push.Reads as push-reads
 use Rattle.writer.proofs.sizing.size_row.Reads as size-row-reads
 use Rattle.writer.proofs.sizing.take_row.Reads as take-row-reads
 use Rattle.writer.proofs.sizing.+size_values.{statement}
@@ -33,51 +33,30 @@ abbrev size-values-below : ℕ → In 3 size-values-kinds.ps
 size-values-below t = and 3 size-values-kinds.ps (falls 3 size-values-kinds.ps _<_ μ-size-values t) size-values.Pre
 
 abbrev size-values-Inv-loop : size-values-lts.InvT-loop
-size-values-Inv-loop words text count levels marks₀ c₀ left₀ marks c left = Within words text c × Comes words text levels any c₀ count marks₀ any c left marks
+size-values-Inv-loop words text count levels marks₀ stack₀ depth₀ c₀ left₀ marks stack depth c left = Walks words text levels c₀ count marks₀ stack depth c left marks
 
 abbrev size-values-μ-loop : size-values-lts.MeasureT-loop
-size-values-μ-loop words text count levels marks₀ c₀ left₀ marks c left = left
+size-values-μ-loop words text count levels marks₀ stack₀ depth₀ c₀ left₀ marks stack depth c left = (length words - 2 * (c .row)) + depth
 
 abbrev claims : ℕ → size-values-lts.Claims
 claims t = (
+  is-due-reads.Asked,
+  is-due-reads.Learnt,
+  close-reads.Asked,
+  close-reads.Learnt,
   take-row-reads.Asked,
   take-row-reads.Learnt,
   past-reads.Asked,
   past-reads.Learnt,
-  open-mark-reads.Asked,
-  open-mark-reads.Learnt,
+  inside-reads.Asked,
+  inside-reads.Learnt,
+  push-reads.Asked,
+  push-reads.Learnt,
   size-values-below t,
   size-values.Post,
-  put-mark-reads.Asked,
-  put-mark-reads.Learnt,
-  open-head-reads.Asked,
-  open-head-reads.Learnt,
   size-row-reads.Asked,
   size-row-reads.Learnt,
 )
-
--- the place of an open row's first child
-opened : (t : ℕ) (c : size-values-lts.After-open-mark (claims t) (size-values-at t) size-values.Post size-values-Inv-loop size-values-μ-loop) →
-    let i = c .before .before .before .before .before in let o = i .before .loop .c in let a = i .before .before .before .before .before .args in
-    Within (a .words .now) (a .text .now) (record { row = o .row + 1; text = o .text; size = 0; mark = o .mark + c .open-mark .result }) × (0 < a .levels)
-opened t c =
-    let i = c .before .before .before .before .before in
-    let a = i .before .before .before .before .before .args in
-    open-first (a .words .now) (a .text .now) (a .levels) (i .before .loop .c) _ _ (c .open-mark .result) (i .before .loop .inv .0) (sym (c .before .before .before .before .take-row .ensures) ∙ c .before .before .kind .given .1) (c .open-mark .ensures)
-
--- the place behind an open row, to which what is left comes
-closed : (t : ℕ) (c : size-values-lts.After-open-head (claims t) (size-values-at t) size-values.Post size-values-Inv-loop size-values-μ-loop) →
-    let p = c .before .before .before .before .before .before .before .before .before .before .before .before .before .before in let i = p .before .before .before .before .before in let o = i .before .loop in let a = i .before .before .before .before .before .args in let e = c .before .before .before .before .before .before .below .given .0 .0 in
-    let d : Extent = record { row = e .row; text = e .text; size = o .c .size + (c .open-head .result + e .size); mark = e .mark } in
-    Within (a .words .now) (a .text .now) d × Comes (a .words .now) (a .text .now) (a .levels) any (o .c) (o .left) (o .marks) any d (o .left - 1) (c .before .before .before .put-mark .last .0)
-closed t c =
-    let p = c .before .before .before .before .before .before .before .before .before .before .before .before .before .before in let i = p .before .before .before .before .before in let o = i .before .loop in let a = i .before .before .before .before .before .args in let e = c .before .before .before .before .before .before .below .given .0 .0 in
-    let y = c .before .before .before .before .before .before .before .before .before .before .size-values in
-    let q = sym (p .before .before .before .before .take-row .ensures) ∙ p .before .before .kind .given .1 in
-    let m = c .before .before .before .put-mark in (
-      open-within (a .words .now) (a .text .now) (a .levels) (o .c) (o .left) (o .marks) (o .inv .0) (i .loop-test .taken) _ _ q _ (p .open-mark .ensures) _ _ (y .ensures .0) (y .ensures .1) (y .kept .1 .1 .1 .1 .0) e (c .before .before .before .before .before .before .below .given .1) _ (c .open-head .ensures),
-      open-comes (a .words .now) (a .text .now) (a .levels) (o .c) (o .left) (o .marks) (o .inv .0) (i .loop-test .taken) _ _ q _ (p .open-mark .ensures) _ _ (y .ensures .0) (y .ensures .1) (y .kept .1 .1 .1 .1 .0) e (c .before .before .before .before .before .before .below .given .1) _ (c .open-head .ensures) _ (m .ensures) (m .kept .0),
-    )
 
 pub +size-values-spec : {M : Type 1} → statement M
 +size-values-spec =
@@ -89,52 +68,70 @@ pub +size-values-spec : {M : Type 1} → statement M
     size-values.Post
     size-values-Inv-loop
     size-values-μ-loop
-    (λ c. (c .before .before .before .pre .1, comes-self _ _ _ _ _ _ _))
-    (λ c. omega (arith, c .loop-test .taken))
-    (λ c κs. (c .before .loop .inv .0 .rows, c .before .loop .inv .0 .letters))
-    (λ c. search needs)
-    (λ c κs.
-    let i = c .before .before .before .before in
-    let s = i .before .before .before .before .before in
-    leaf-sums (s .args .words .now) (s .args .text .now) (s .args .levels) (i .before .loop .c) (i .before .loop .left) (i .before .loop .marks) (i .before .loop .inv .0) (i .loop-test .taken) _ _ (number-taken _ _ _ _ (sym (c .before .before .before .take-row .ensures) ∙ c .before .size .given .1)) (s .good .0 .1) (s .good .1 .0 .1))
-    (λ c. omega (arith, c .before .before .before .before .before .loop-test .taken))
-    (λ c.
-    let i = c .before .before .before .before .before in
-    let s = i .before .before .before .before .before in
-    leaf-turn (s .args .words .now) (s .args .text .now) (s .args .levels) (i .before .loop .c) (i .before .loop .left) (i .before .loop .marks) (i .before .loop .inv .0) (i .loop-test .taken) _ _ (number-taken _ _ _ _ (sym (c .before .before .before .before .take-row .ensures) ∙ c .before .before .size .given .1)) (i .before .loop .inv .1) _ (c .past .ensures))
-    (λ c. search needs)
-    (λ c κs.
-    let i = c .before .before .before .before in
-    let s = i .before .before .before .before .before in
-    leaf-sums (s .args .words .now) (s .args .text .now) (s .args .levels) (i .before .loop .c) (i .before .loop .left) (i .before .loop .marks) (i .before .loop .inv .0) (i .loop-test .taken) _ _ (letters-taken _ _ _ _ _ (sym (c .before .before .before .take-row .ensures) ∙ c .before .letters .given .1)) (s .good .0 .1) (s .good .1 .0 .1))
-    (λ c. omega (arith, c .before .before .before .before .before .loop-test .taken))
-    (λ c.
-    let i = c .before .before .before .before .before in
-    let s = i .before .before .before .before .before in
-    leaf-turn (s .args .words .now) (s .args .text .now) (s .args .levels) (i .before .loop .c) (i .before .loop .left) (i .before .loop .marks) (i .before .loop .inv .0) (i .loop-test .taken) _ _ (letters-taken _ _ _ _ _ (sym (c .before .before .before .before .take-row .ensures) ∙ c .before .before .letters .given .1)) (i .before .loop .inv .1) _ (c .past2 .ensures))
-    (λ c. search needs)
+    -- the loop
+    (λ c. walk-start _ _ _ _ _ _ _ (c .before .before .before .pre .1) refl)
     (λ c κs. search needs)
-    (λ c. omega (arith, opened t (c .before) .0 .rows, c .before .before .before .before .before .before .before .before .before .before .before .good .0 .1))
-    (λ c. omega (arith, opened t (c .before .before) .0 .marked, opened t (c .before .before) .0 .rows, c .before .before .before .before .before .before .before .before .before .before .before .before .good .0 .1))
-    (λ c. omega (arith, opened t (c .before .before) .1))
-    (λ c κs. (omega (arith, opened t (c .before .before .before) .1, c .before .before .before .before .before .before .before .before .before .before .before .before .before .pre .0), opened t (c .before .before .before) .0))
+    -- the innermost row is closed
+    (λ c. let i = c .before .before .before .loop in let d = due _ (i .left) (i .depth) (c .before .before .is-due .ensures) (c .before .if1 .taken) in omega (arith, d, c .if2 .taken))
+    (λ c. omega (arith, c .before .before .before .loop .inv .room))
+    (λ c. omega (arith, c .before .before .before .loop .inv .room))
+    (λ c. search needs)
+    (λ c. let i = c .before .before .before .loop in let d = due _ (i .left) (i .depth) (c .before .before .is-due .ensures) (c .before .if1 .taken) in omega (arith, i .inv .room, d, c .if2 .taken))
+    (λ c. search needs)
+    (λ c. let i = c .before .before .before .before .loop in let d = due _ (i .left) (i .depth) (c .before .before .before .is-due .ensures) (c .before .before .if1 .taken) in omega (arith, i .inv .room, d, c .before .if2 .taken))
+    (λ c. omega (arith, c .before .before .before .before .loop .inv .room))
+    (λ c. search needs)
+    (λ c. let i = c .before .before .before .before .loop in let d = due _ (i .left) (i .depth) (c .before .before .before .is-due .ensures) (c .before .before .if1 .taken) in omega (arith, i .inv .room, d, c .before .if2 .taken))
+    (λ c. omega (arith, c .before .before .before .before .loop .inv .room))
+    (λ c. search needs)
+    (λ c. let i = c .before .before .before .before .loop in let d = due _ (i .left) (i .depth) (c .before .before .before .is-due .ensures) (c .before .before .if1 .taken) in omega (arith, i .inv .room, d, c .before .if2 .taken))
+    (λ c κs. let i = c .before .before .before .before .loop in let v = walk-within (i .inv) in let d = due _ (i .left) (i .depth) (c .before .before .before .is-due .ensures) (c .before .before .if1 .taken) in omega (arith, (walk-sums (i .inv) (omega (arith, c .before .if2 .taken)) d), v .rows, v .letters, c .before .before .before .before .before .before .before .before .good .0 .1, c .before .before .before .before .before .before .before .before .good .1 .0 .1))
+    (λ c. let i = c .before .before .before .before .before .before .before .loop in let d = due _ (i .left) (i .depth) (c .before .before .before .before .before .before .is-due .ensures) (c .before .before .before .before .before .if1 .taken) in rw (c .before .before .close .ensures .0) (omega (arith, d, c .before .before .before .before .if2 .taken)))
+    (λ c. let i = c .before .before .before .before .before .before .before .loop in let d = due _ (i .left) (i .depth) (c .before .before .before .before .before .before .is-due .ensures) (c .before .before .before .before .before .if1 .taken) in rw (c .before .before .close .ensures .0) (walk-close (i .inv) (omega (arith, c .before .before .before .before .if2 .taken)) d _ (c .before .before .close .kept .0) (c .before .before .close .ensures .1)))
+    -- the next row
+    (λ c. omega (arith, c .if2 .left))
+    (λ c. omega (arith, c .before .before .before .loop .inv .deep))
+    (λ c κs. let v = walk-within (c .before .before .before .loop .inv) in (v .rows, v .letters))
+    -- a number
+    (λ c. search needs)
+    (λ c κs. let i = c .before .before .before .before .before .before .before .loop in leaf-sums _ _ _ _ (i .left) (i .marks) (walk-within (i .inv)) (omega (arith, c .before .before .before .before .if2 .left)) _ _ (number-taken _ _ _ _ (sym (c .before .before .before .take-row .ensures) ∙ c .before .size .given .1)) (c .before .before .before .before .before .before .before .before .before .before .before .good .0 .1) (c .before .before .before .before .before .before .before .before .before .before .before .good .1 .0 .1))
+    (λ c. let i = c .before .before .before .before .before .before .before .before .loop in rw (c .past .ensures) (walk-less (i .inv) _ _ (λ m h. leaf-comes _ _ _ _ m _ (walk-within (i .inv)) h _ _ (number-taken _ _ _ _ (sym (c .before .before .before .before .take-row .ensures) ∙ c .before .before .size .given .1)))))
+    (λ c. let i = c .before .before .before .before .before .before .before .before .loop in rw (c .past .ensures) (walk-on (i .inv) (omega (arith, c .before .before .before .before .before .if2 .left)) _ _ (λ m h. leaf-comes _ _ _ _ m (i .marks) (walk-within (i .inv)) h _ _ (number-taken _ _ _ _ (sym (c .before .before .before .before .take-row .ensures) ∙ c .before .before .size .given .1)))))
+    -- letters
+    (λ c. search needs)
+    (λ c κs. let i = c .before .before .before .before .before .before .before .loop in leaf-sums _ _ _ _ (i .left) (i .marks) (walk-within (i .inv)) (omega (arith, c .before .before .before .before .if2 .left)) _ _ (letters-taken _ _ _ _ _ (sym (c .before .before .before .take-row .ensures) ∙ c .before .letters .given .1)) (c .before .before .before .before .before .before .before .before .before .before .before .good .0 .1) (c .before .before .before .before .before .before .before .before .before .before .before .good .1 .0 .1))
+    (λ c. let i = c .before .before .before .before .before .before .before .before .loop in rw (c .past2 .ensures) (walk-less (i .inv) _ _ (λ m h. leaf-comes _ _ _ _ m _ (walk-within (i .inv)) h _ _ (letters-taken _ _ _ _ _ (sym (c .before .before .before .before .take-row .ensures) ∙ c .before .before .letters .given .1)))))
+    (λ c. let i = c .before .before .before .before .before .before .before .before .loop in rw (c .past2 .ensures) (walk-on (i .inv) (omega (arith, c .before .before .before .before .before .if2 .left)) _ _ (λ m h. leaf-comes _ _ _ _ m (i .marks) (walk-within (i .inv)) h _ _ (letters-taken _ _ _ _ _ (sym (c .before .before .before .before .take-row .ensures) ∙ c .before .before .letters .given .1)))))
+    -- an open row
+    (λ c. search needs)
+    (λ c κs. let v = walk-within (c .before .before .before .before .before .before .before .loop .inv) in (omega (arith, (open-first _ _ _ _ _ _ _ v (sym (c .before .before .before .take-row .ensures) ∙ c .before .kind .given .1) refl) .0 .rows, c .before .before .before .before .before .before .before .before .before .before .before .good .0 .1), omega (arith, v .marked, v .rows, c .before .before .before .before .before .before .before .before .before .before .before .good .0 .1)))
+    -- which goes onto the stack
+    (λ c. search needs)
+    (λ c κs. omega (arith, c .before .if3 .taken, c .before .before .before .before .before .before .before .before .before .before .loop .inv .stacked))
+    (λ c. omega (arith, c .before .before .before .if3 .taken))
+    (λ c. rw (c .before .before .before .before .inside .ensures) (omega (arith, (open-first _ _ _ _ _ _ _ (walk-within (c .before .before .before .before .before .before .before .before .before .before .before .before .loop .inv)) (sym (c .before .before .before .before .before .before .before .before .take-row .ensures) ∙ c .before .before .before .before .before .before .kind .given .1) refl) .0 .rows)))
+    (λ c. rw (c .before .before .before .before .inside .ensures) (walk-open (c .before .before .before .before .before .before .before .before .before .before .before .before .loop .inv) (omega (arith, c .before .before .before .before .before .before .before .before .before .if2 .left)) (c .before .before .before .if3 .taken) _ _ (sym (c .before .before .before .before .before .before .before .before .take-row .ensures) ∙ c .before .before .before .before .before .before .kind .given .1) _ (c .before .push .ensures)))
+    -- or whose values are sized by a call
+    (λ c. omega (arith, c .before .before .before .before .before .before .before .before .before .loop .inv .deep))
+    (λ c. omega (arith, (open-first _ _ _ _ _ _ _ (walk-within (c .before .before .before .before .before .before .before .before .before .loop .inv)) (sym (c .before .before .before .before .before .take-row .ensures) ∙ c .before .before .before .kind .given .1) refl) .1))
+    (λ c κs. let q = sym (c .before .before .before .before .before .before .take-row .ensures) ∙ c .before .before .before .before .kind .given .1 in let v = walk-within (c .before .before .before .before .before .before .before .before .before .before .loop .inv) in (omega (arith, (open-first _ _ _ _ _ _ _ v q refl) .1, c .before .before .before .before .before .before .before .before .before .before .before .before .before .before .pre .0), rw (c .before .before .inside .ensures) ((open-first _ _ _ _ _ _ _ v q refl) .0)))
     (λ c. search needs)
     (λ c. search needs)
-    (λ c. c .before .before .before .before .size-values .kept .1 .1 .1 .1 .0 ∙ c .before .before .before .before .before .before .before .before .before .before .before .before .before .before .loop .inv .1 .kept)
-    (λ c. let y = comes-no (c .before .before .before .before .before .before .before .before .before .before .before .before .before .before .loop .inv .1) (c .before .before .before .before .before .before .before .before .before .before .before .before .before .loop-test .taken) _ _ _ (open-no (c .before .before .before .before .before .before .before .before .before .before .before .before .before .before .before .before .before .before .args .words .now) (c .before .before .before .before .before .before .before .before .before .before .before .before .before .before .before .before .before .before .args .text .now) (c .before .before .before .before .before .before .before .before .before .before .before .before .before .before .before .before .before .before .args .levels) (c .before .before .before .before .before .before .before .before .before .before .before .before .before .before .loop .c) (c .before .before .before .before .before .before .before .before .before .before .before .before .before .before .loop .left) (c .before .before .before .before .before .before .before .before .before .before .before .before .before .before .loop .marks) (c .before .before .before .before .before .before .before .before .before .before .before .before .before .before .loop .inv .0) (c .before .before .before .before .before .before .before .before .before .before .before .before .before .loop-test .taken) _ _ (sym (c .before .before .before .before .before .before .before .before .before .before .before .before .take-row .ensures) ∙ c .before .before .before .before .before .before .before .before .before .before .kind .given .1) _ (c .before .before .before .before .before .before .before .before .open-mark .ensures) _ _ (c .before .before .before .before .size-values .ensures .0) (c .before .before .before .before .size-values .ensures .1) (c .before .before .before .before .size-values .kept .1 .1 .1 .1 .0) _ (c .enum-told .given .1)) in (c .enum-told .given .1 ∙ y .0, y .1))
-    (λ c κs. omega (arith, opened t (c .before .before .before .before .before .before .before .before .before .before) .0 .marked, opened t (c .before .before .before .before .before .before .before .before .before .before) .0 .rows, c .before .before .before .before .before .before .before .before .before .before .before .before .before .before .before .before .before .before .before .before .good .0 .1))
-    (λ c κs. search needs)
-    (λ c. omega (arith, closed t (c .before) .0 .small, closed t (c .before) .0 .rows, closed t (c .before) .0 .letters, c .before .before .before .before .before .before .before .before .before .before .before .before .before .before .before .before .before .before .before .before .before .before .before .before .before .good .0 .1, c .before .before .before .before .before .before .before .before .before .before .before .before .before .before .before .before .before .before .before .before .before .before .before .before .before .good .1 .0 .1))
-    (λ c. omega (arith, closed t (c .before .before) .0 .small, closed t (c .before .before) .0 .rows, closed t (c .before .before) .0 .letters, c .before .before .before .before .before .before .before .before .before .before .before .before .before .before .before .before .before .before .before .before .before .before .before .before .before .before .good .0 .1, c .before .before .before .before .before .before .before .before .before .before .before .before .before .before .before .before .before .before .before .before .before .before .before .before .before .before .good .1 .0 .1))
-    (λ c. omega (arith, c .before .before .before .before .before .before .before .before .before .before .before .before .before .before .before .before .before .before .before .before .before .loop-test .taken))
-    (λ c. (closed t (c .before .before) .0, comes-on (c .before .before .before .before .before .before .before .before .before .before .before .before .before .before .before .before .before .before .before .before .before .before .loop .inv .1) (closed t (c .before .before) .1)))
+    (λ c. c .before .before .before .before .size-values .kept .1 .1 .1 .1 .0 ∙ c .before .before .before .before .before .before .before .before .before .before .before .before .before .before .before .loop .inv .kept)
+    (λ c. let i = c .before .before .before .before .before .before .before .before .before .before .before .before .before .before .before .loop in let y = ends-whole _ _ _ _ _ _ _ _ (walk-no (i .inv) (omega (arith, c .before .before .before .before .before .before .before .before .before .before .before .before .if2 .left)) _ _ (open-no _ _ _ _ (i .left) _ (walk-within (i .inv)) (omega (arith, c .before .before .before .before .before .before .before .before .before .before .before .before .if2 .left)) _ _ (sym (c .before .before .before .before .before .before .before .before .before .before .before .take-row .ensures) ∙ c .before .before .before .before .before .before .before .before .before .kind .given .1) _ refl _ _ (rw (c .before .before .before .before .before .before .before .inside .ensures) at (c .before .before .before .before .size-values .ensures .0)) (rw (c .before .before .before .before .before .before .before .inside .ensures) at (c .before .before .before .before .size-values .ensures .1)) (c .before .before .before .before .size-values .kept .1 .1 .1 .1 .0) _ (c .enum-told .given .1))) in (c .enum-told .given .1 ∙ y .0, y .1))
+    (λ c κs. let i = c .before .before .before .before .before .before .before .before .before .before .before .before .before .before .before .before .before .loop in let q = sym (c .before .before .before .before .before .before .before .before .before .before .before .before .before .take-row .ensures) ∙ c .before .before .before .before .before .before .before .before .before .before .before .kind .given .1 in let v = walk-within (i .inv) in omega (arith, (open-within _ _ _ _ (i .left) _ v (omega (arith, c .before .before .before .before .before .before .before .before .before .before .before .before .before .before .if2 .left)) _ _ q _ refl _ _ (rw (c .before .before .before .before .before .before .before .before .before .inside .ensures) at (c .before .before .before .before .before .before .size-values .ensures .0)) (rw (c .before .before .before .before .before .before .before .before .before .inside .ensures) at (c .before .before .before .before .before .before .size-values .ensures .1)) (c .before .before .before .before .before .before .size-values .kept .1 .1 .1 .1 .0) (c .before .before .below .given .0 .0) (c .before .before .below .given .1) _ refl) .small, (open-within _ _ _ _ (i .left) _ v (omega (arith, c .before .before .before .before .before .before .before .before .before .before .before .before .before .before .if2 .left)) _ _ q _ refl _ _ (rw (c .before .before .before .before .before .before .before .before .before .inside .ensures) at (c .before .before .before .before .before .before .size-values .ensures .0)) (rw (c .before .before .before .before .before .before .before .before .before .inside .ensures) at (c .before .before .before .before .before .before .size-values .ensures .1)) (c .before .before .before .before .before .before .size-values .kept .1 .1 .1 .1 .0) (c .before .before .below .given .0 .0) (c .before .before .below .given .1) _ refl) .rows, (open-within _ _ _ _ (i .left) _ v (omega (arith, c .before .before .before .before .before .before .before .before .before .before .before .before .before .before .if2 .left)) _ _ q _ refl _ _ (rw (c .before .before .before .before .before .before .before .before .before .inside .ensures) at (c .before .before .before .before .before .before .size-values .ensures .0)) (rw (c .before .before .before .before .before .before .before .before .before .inside .ensures) at (c .before .before .before .before .before .before .size-values .ensures .1)) (c .before .before .before .before .before .before .size-values .kept .1 .1 .1 .1 .0) (c .before .before .below .given .0 .0) (c .before .before .below .given .1) _ refl) .letters, c .before .before .before .before .before .before .before .before .before .before .before .before .before .before .before .before .before .before .before .before .before .good .0 .1, c .before .before .before .before .before .before .before .before .before .before .before .before .before .before .before .before .before .before .before .before .before .good .1 .0 .1))
+    (λ c. let i = c .before .before .before .before .before .before .before .before .before .before .before .before .before .before .before .before .before .before .before .before .loop in rw (c .before .before .close2 .ensures .0) (walk-less (i .inv) _ _ (λ m h. open-comes _ _ _ _ m _ (walk-within (i .inv)) h _ _ (sym (c .before .before .before .before .before .before .before .before .before .before .before .before .before .before .before .before .take-row .ensures) ∙ c .before .before .before .before .before .before .before .before .before .before .before .before .before .before .kind .given .1) _ refl _ _ (rw (c .before .before .before .before .before .before .before .before .before .before .before .before .inside .ensures) at (c .before .before .before .before .before .before .before .before .before .size-values .ensures .0)) (rw (c .before .before .before .before .before .before .before .before .before .before .before .before .inside .ensures) at (c .before .before .before .before .before .before .before .before .before .size-values .ensures .1)) (c .before .before .before .before .before .before .before .before .before .size-values .kept .1 .1 .1 .1 .0) (c .before .before .before .before .before .below .given .0 .0) (c .before .before .before .before .before .below .given .1) _ refl _ (c .before .before .close2 .ensures .1) (c .before .before .close2 .kept .0))))
+    (λ c. let i = c .before .before .before .before .before .before .before .before .before .before .before .before .before .before .before .before .before .before .before .before .loop in rw (c .before .before .close2 .ensures .0) (walk-on (i .inv) (omega (arith, c .before .before .before .before .before .before .before .before .before .before .before .before .before .before .before .before .before .if2 .left)) _ _ (λ m h. open-comes _ _ _ _ m _ (walk-within (i .inv)) h _ _ (sym (c .before .before .before .before .before .before .before .before .before .before .before .before .before .before .before .before .take-row .ensures) ∙ c .before .before .before .before .before .before .before .before .before .before .before .before .before .before .kind .given .1) _ refl _ _ (rw (c .before .before .before .before .before .before .before .before .before .before .before .before .inside .ensures) at (c .before .before .before .before .before .before .before .before .before .size-values .ensures .0)) (rw (c .before .before .before .before .before .before .before .before .before .before .before .before .inside .ensures) at (c .before .before .before .before .before .before .before .before .before .size-values .ensures .1)) (c .before .before .before .before .before .before .before .before .before .size-values .kept .1 .1 .1 .1 .0) (c .before .before .before .before .before .below .given .0 .0) (c .before .before .before .before .before .below .given .1) _ refl _ (c .before .before .close2 .ensures .1) (c .before .before .close2 .kept .0))))
+    -- another row
     (λ c. search needs)
-    (λ c κs. (c .before .before .before .before .before .loop .inv .0, sym (c .before .before .before .take-row .ensures) ∙ c .before .enum-told2 .given .1))
+    (λ c. omega (arith, c .before .before .before .before .before .before .loop .inv .deep))
+    (λ c κs. ((walk-within (c .before .before .before .before .before .before .before .loop .inv)), sym (c .before .before .before .take-row .ensures) ∙ c .before .enum-told2 .given .1))
     (λ c. search needs)
     (λ c. search needs)
-    (λ c. c .before .before .before .before .size-row .kept .1 .1 .1 .0 ∙ c .before .before .before .before .before .before .before .before .before .before .loop .inv .1 .kept)
-    (λ c. let y = comes-no (c .before .before .before .before .before .before .before .before .before .before .loop .inv .1) (c .before .before .before .before .before .before .before .before .before .loop-test .taken) _ _ _ (subst (Rowed (c .before .before .before .before .before .before .before .before .before .before .before .before .before .before .args .words .now) (c .before .before .before .before .before .before .before .before .before .before .before .before .before .before .args .text .now) (c .before .before .before .before .before .before .before .before .before .before .before .before .before .before .args .levels) (c .before .before .before .before .before .before .before .before .before .before .loop .c) (c .before .before .before .before .before .before .before .before .before .before .loop .marks) _) (c .enum-told3 .given .1) (c .before .before .before .before .size-row .ensures)) in (c .enum-told3 .given .1 ∙ y .0, y .1))
-    (λ c. omega (arith, c .before .before .before .before .before .before .before .before .before .before .loop-test .taken))
-    (λ c. let y = subst (Rowed (c .before .before .before .before .before .before .before .before .before .before .before .before .before .before .before .args .words .now) (c .before .before .before .before .before .before .before .before .before .before .before .before .before .before .before .args .text .now) (c .before .before .before .before .before .before .before .before .before .before .before .before .before .before .before .args .levels) (c .before .before .before .before .before .before .before .before .before .before .before .loop .c) (c .before .before .before .before .before .before .before .before .before .before .before .loop .marks) _) (c .before .one .given .1) (c .before .before .before .before .before .size-row .ensures) in (y .0, comes-on (c .before .before .before .before .before .before .before .before .before .before .before .loop .inv .1) (y .1 (c .before .before .before .before .before .before .before .before .before .before .before .loop .left) (c .before .before .before .before .before .before .before .before .before .before .loop-test .taken))))
-    (λ c. c .before .loop .inv .1 .kept)
-    (λ c. comes-end (c .before .loop .inv .1) (omega (arith, c .loop-test .left))))
+    (λ c. c .before .before .before .before .size-row .kept .1 .1 .1 .0 ∙ c .before .before .before .before .before .before .before .before .before .before .before .before .loop .inv .kept)
+    (λ c. let i = c .before .before .before .before .before .before .before .before .before .before .before .before .loop in let y = ends-whole _ _ _ _ _ _ _ _ (walk-no (i .inv) (omega (arith, c .before .before .before .before .before .before .before .before .before .if2 .left)) _ _ (subst (Rowed (c .before .before .before .before .before .before .before .before .before .before .before .before .before .before .before .before .args .words .now) (c .before .before .before .before .before .before .before .before .before .before .before .before .before .before .before .before .args .text .now) (c .before .before .before .before .before .before .before .before .before .before .before .before .before .before .before .before .args .levels - i .depth) (i .c) (i .marks) _) (c .enum-told3 .given .1) (c .before .before .before .before .size-row .ensures))) in (c .enum-told3 .given .1 ∙ y .0, y .1))
+    (λ c. let i = c .before .before .before .before .before .before .before .before .before .before .before .before .before .loop in walk-less (i .inv) _ _ ((subst (Rowed (c .before .before .before .before .before .before .before .before .before .before .before .before .before .before .before .before .before .args .words .now) (c .before .before .before .before .before .before .before .before .before .before .before .before .before .before .before .before .before .args .text .now) (c .before .before .before .before .before .before .before .before .before .before .before .before .before .before .before .before .before .args .levels - i .depth) (i .c) (i .marks) _) (c .before .one .given .1) (c .before .before .before .before .before .size-row .ensures)) .1))
+    (λ c. let i = c .before .before .before .before .before .before .before .before .before .before .before .before .before .loop in walk-on (i .inv) (omega (arith, c .before .before .before .before .before .before .before .before .before .before .if2 .left)) _ _ ((subst (Rowed (c .before .before .before .before .before .before .before .before .before .before .before .before .before .before .before .before .before .args .words .now) (c .before .before .before .before .before .before .before .before .before .before .before .before .before .before .before .before .before .args .text .now) (c .before .before .before .before .before .before .before .before .before .before .before .before .before .before .before .before .before .args .levels - i .depth) (i .c) (i .marks) _) (c .before .one .given .1) (c .before .before .before .before .before .size-row .ensures)) .1))
+    -- nothing is due
+    (λ c. c .before .before .loop .inv .kept)
+    (λ c. let i = c .before .before .loop in ends-whole _ _ _ _ _ _ _ _ (walk-end (i .inv) (not-due _ (i .left) (i .depth) (c .before .is-due .ensures) (c .if1 .left)))))

@@ -1,11 +1,25 @@
 -- A row is read where a level and two words are left.
+use Prim.Native.Nat.{_+_, _*_, _<_}
+use mathlib.Core.Path.{_≡_}
+use mathlib.Core.List.{_∷_}
 use borrow.Author.Needs.{needs}
 use native.Mathlib.Omega.{arith}
-use lib.ListN.{length-drop}
+use lib.ListN.{drop, getD, length-drop}
 use Rattle.writer.proofs.Checks.{row-words}
-use Rattle.writer.proofs.Turns.{taken-deep, taken-missing, taken-open, taken-number, taken-letters, taken-other}
+use Rattle.writer.proofs.Turns.{taken-deep, taken-missing, taken-plain, taken-open, taken-number, taken-letters, taken-other}
 use Rattle.writer.proofs.sizing.take_row.Statement.{statement}
 use Rattle.writer.proofs.sizing.take_row.Tie as tie
+
+-- where both words were read
+level : (c : tie.After-shared-slice-known4) → 0 < c .before .before .before .before .before .before .args .levels
+level c = omega (arith, c .before .before .before .if1 .left)
+
+words : (c : tie.After-shared-slice-known4) →
+    let a = c .before .before .before .before .before .before .args in
+    drop (2 * a .row) (a .words .now) ≡ getD (a .words .now) (2 * a .row) 0 ∷ getD (a .words .now) (2 * a .row + 1) 0 ∷ drop (2 * a .row + 2) (a .words .now)
+words c =
+    let a = c .before .before .before .before .before .before .args in
+    row-words (a .words .now) (a .row) (omega (arith, c .before .before .if2 .left, c .before .before .before .before .before .before .pre .0))
 
 pub take-row-spec : {M : Type 1} → statement M
 take-row-spec =
@@ -21,20 +35,11 @@ take-row-spec =
     (λ c. search needs)
     (λ c. search needs)
     (λ c κs. search needs)
-    (λ c.
-    let s = c .before .before .before .before .before .before .before .before in
-    rw (row-words (s .args .words .now) (s .args .row) (omega (arith, c .before .before .before .before .if2 .left, s .pre .0))) (taken-open _ _ _ _ _ (omega (arith, c .before .before .before .before .before .if1 .left)) _ (c .before .is-open .ensures) (c .if3 .taken)))
+    (λ c. rw (words (c .before .before)) (taken-plain _ _ _ _ _ (level (c .before .before)) _ (c .before .plain-size .ensures (c .if3 .taken)) (c .if3 .taken)))
     (λ c κs. search needs)
-    (λ c.
-    let s = c .before .before .before .before .before .before .before .before .before .before in
-    rw (row-words (s .args .words .now) (s .args .row) (omega (arith, c .before .before .before .before .before .before .if2 .left, s .pre .0)))
-    (taken-number _ _ _ _ _ (omega (arith, c .before .before .before .before .before .before .before .if1 .left)) _ (c .before .before .before .is-open .ensures) (c .before .before .if3 .left) _ (c .before .size-number .ensures) (c .if4 .taken)))
-    (λ c κs. c .before .before .before .before .before .before .before .before .before .before .pre .1)
-    (λ c.
-    let s = c .before .before .before .before .before .before .before .before .before .before .before .before in
-    rw (row-words (s .args .words .now) (s .args .row) (omega (arith, c .before .before .before .before .before .before .before .before .if2 .left, s .pre .0)))
-    (taken-letters _ _ _ _ _ (omega (arith, c .before .before .before .before .before .before .before .before .before .if1 .left)) _ (c .before .before .before .before .before .is-open .ensures) (c .before .before .before .before .if3 .left) _ (c .before .before .before .size-number .ensures) (c .before .before .if4 .left) _ (c .before .size-letters .ensures) (c .if5 .taken)))
-    (λ c.
-    let s = c .before .before .before .before .before .before .before .before .before .before .before .before in
-    rw (row-words (s .args .words .now) (s .args .row) (omega (arith, c .before .before .before .before .before .before .before .before .if2 .left, s .pre .0)))
-    (taken-other _ _ _ _ _ (omega (arith, c .before .before .before .before .before .before .before .before .before .if1 .left)) _ (c .before .before .before .before .before .is-open .ensures) (c .before .before .before .before .if3 .left) _ (c .before .before .before .size-number .ensures) (c .before .before .if4 .left) _ (c .before .size-letters .ensures) (c .if5 .left))))
+    (λ c. rw (words (c .before .before .before .before)) (taken-open _ _ _ _ _ (level (c .before .before .before .before)) _ (c .before .is-open .ensures) (c .if4 .taken)))
+    (λ c κs. search needs)
+    (λ c. rw (words (c .before .before .before .before .before .before)) (taken-number _ _ _ _ _ (level (c .before .before .before .before .before .before)) _ (c .before .before .before .is-open .ensures) (c .before .before .if4 .left) _ (c .before .size-number .ensures) (c .if5 .taken)))
+    (λ c κs. c .before .before .before .before .before .before .before .before .before .before .before .before .pre .1)
+    (λ c. rw (words (c .before .before .before .before .before .before .before .before)) (taken-letters _ _ _ _ _ (level (c .before .before .before .before .before .before .before .before)) _ (c .before .before .before .before .before .is-open .ensures) (c .before .before .before .before .if4 .left) _ (c .before .before .before .size-number .ensures) (c .before .before .if5 .left) _ (c .before .size-letters .ensures) (c .if6 .taken)))
+    (λ c. rw (words (c .before .before .before .before .before .before .before .before)) (taken-other _ _ _ _ _ (level (c .before .before .before .before .before .before .before .before)) _ (c .before .before .before .before .before .is-open .ensures) (c .before .before .before .before .if4 .left) _ (c .before .before .before .size-number .ensures) (c .before .before .if5 .left) _ (c .before .size-letters .ensures) (c .if6 .left))))

@@ -1,0 +1,52 @@
+-- A part of a text: the bytes that it has, and that it is clean where it is all ASCII.
+use Prim.Native.Nat.{ℕ, zero, suc, _+_, _-_, _≤_, _<_, min}
+use mathlib.Core.Path.{_≡_, refl, sym, ap, _∙_}
+use mathlib.Core.List.{List, [], _∷_}
+use mathlib.Core.Bool.{Bool, true}
+use native.Mathlib.Omega.{arith}
+use borrow.Author.Tests.{leb-true}
+use lib.Dec.{leb, leb·zero}
+use lib.ListN.{length, take, drop, length-drop, drop-of-length-le}
+use lib.Seq.{take-nil}
+use Rattle.standard.specs.Text.{Sequence, utf8, ascii, leadIn, flawless, faultDue}
+use Rattle.standard.specs.Kinds.{flaw, clean}
+use Rattle.standard.specs.Facts.{T-true, if-case, clean-nil}
+use Rattle.text.specs.Steps.{asciiRun}
+use Rattle.text.proofs.Sequences.{none-due}
+use Rattle.text.proofs.Ascii.{single}
+
+take-least : (m n : ℕ) (bs : List ℕ) → m ≡ min n (length bs) → take m bs ≡ take n bs
+take-least zero zero bs e = refl
+take-least zero (suc n) [] e = refl
+take-least zero (suc n) (b ∷ bs) e = absurd (omega arith)
+take-least (suc m) zero bs e = absurd (omega arith)
+take-least (suc m) (suc n) [] e = refl
+take-least (suc m) (suc n) (b ∷ bs) e = ap {B = List ℕ} (λ r. b ∷ r) (take-least m n bs (omega arith))
+
+-- a part ends where the text does, or before
+pub part-ends : (text : List ℕ) (start count end : ℕ) → end ≡ start + min count (length text - start) → take (end - start) (drop start text) ≡ take count (drop start text)
+part-ends text start count end e = take-least (end - start) count (drop start text) (rw length-drop (omega arith))
+
+-- behind the end there is no text
+pub past-clean : (k : ℕ) (text : List ℕ) (start count : ℕ) → length text < start → clean k (take count (drop start text)) ≡ true
+past-clean k text start count h =
+    let e : length text ≤ start = omega arith in
+    rw (drop-of-length-le, take-nil) (clean-nil k)
+
+run-flawless : (ss : List Sequence) (p n : ℕ) (bs : List ℕ) → n ≤ asciiRun bs → faultDue (single ∷ ss) 0 p (take n bs) [] ≡ flawless
+unfolding asciiRun faultDue leadIn
+run-flawless ss p zero bs h = refl
+run-flawless ss p (suc n) [] h = refl
+run-flawless ss p (suc n) (b ∷ bs) h =
+    if-case (λ m. suc n ≤ m → faultDue (single ∷ ss) 0 p (b ∷ take n bs) [] ≡ flawless) (leb b 0x7f) (suc (asciiRun bs)) 0
+    (λ t k. rw (leb·zero b, T-true (leb b 0x7f) t) (none-due (single ∷ ss) p 0 (suc p) (take n bs) ∙ run-flawless ss (suc p) n bs (omega arith)))
+    (λ t k. absurd (omega arith))
+    h
+
+run-clean : (k n : ℕ) (bs : List ℕ) → n ≤ asciiRun bs → clean k (take n bs) ≡ true
+unfolding flaw faultDue utf8 ascii
+run-clean k n bs h = rw (run-flawless _ 0 n bs h, run-flawless [] 0 n bs h) (clean-nil k)
+
+-- what lies in a block of ASCII is clean, whatever the kind
+pub block-clean : (k n m : ℕ) (bs : List ℕ) (b : Bool) → n ≤ m → b ≡ leb m (asciiRun bs) → b ≡ true → clean k (take n bs) ≡ true
+block-clean k n m bs b h e t = run-clean k n bs (omega (arith, leb-true m (asciiRun bs) (sym e ∙ t)))
