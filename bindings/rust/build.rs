@@ -1,8 +1,7 @@
 //! Finds the proved library and links it.
 //!
 //! - `AFSUNGAR_LIBRARY` is the path of a built one, `lib*.a`, for the processor that is built for.
-//! - Otherwise, inside the repository, it is made here: on x86-64 by `rt staticlib export`, on another processor by
-//!   `compare/native-lib`.
+//! - Otherwise, inside the repository, it is made here by `compare/native-lib`: for x86-64 it is what `rt staticlib export` makes.
 use std::env;
 use std::error::Error;
 use std::fs;
@@ -54,18 +53,13 @@ fn made() -> Outcome<PathBuf> {
     println!("cargo:rerun-if-changed={}", root.join("crates").display());
     println!("cargo:rerun-if-changed={}", root.join("crates.txt").display());
 
-    if processor == "x86_64" {
-        run(Command::new("rt").args(["staticlib", "export"]).current_dir(root))?;
-        // A copy, because `rt ci` removes the folder target/ of the repository.
-        fs::copy(root.join("target/staticlib/libexport.a"), &out)?;
-        return Ok(out);
-    }
     let script = root.join("compare/native-lib");
     println!("cargo:rerun-if-changed={}", script.display());
-    if !script.is_file() || env::var("HOST")? != env::var("TARGET")? {
-        return Err(advice(&format!("there is no way here to build the library for {processor}")).into());
+    if !script.is_file() || env::var("CARGO_CFG_TARGET_OS")? != "linux" {
+        return Err(advice(&format!("there is no way here to build the library for {}", env::var("TARGET")?)).into());
     }
-    run(Command::new(script).arg("export").arg(&out).current_dir(root))?;
+    // Into a folder of cargo's, because `rt ci` removes the folder target/ of the repository.
+    run(Command::new(script).args(["--for", &processor, "export"]).arg(&out).current_dir(root))?;
     Ok(out)
 }
 
