@@ -3,7 +3,7 @@ ghost use mathlib.Core.Path.{_≡_};
 ghost use mathlib.Core.List.{[], _∷_};
 ghost use Prim.Native.Nat.{_+_, _*_, _^_, _≤_, _<_};
 ghost use lib.Dec.{eqb, ltb};
-ghost use lib.ListN.{length, drop};
+ghost use lib.ListN.{length, drop, getD};
 ghost use lib.Seq.{sets};
 ghost use Rattle.standard.specs.Choose.{if};
 ghost use Rattle.standard.specs.Bytes.{be};
@@ -351,16 +351,17 @@ fn open_head(kind: u64, body: usize) -> usize
     head::compound_width(body)
 }
 
-// Puts an open row onto the stack, with so many values due behind it.
-fn push(stack: &mut [usize], depth: usize, c: Extent, left: usize, kind: u64)
-    requires { ⌜ 4 * depth + 4 ≤ length (now stack) ⌝ }
-    ensures { λ _. ⌜ now (stack .exit) ≡ sets (now (stack .entry)) (4 * depth) (c .size ∷ c .mark ∷ left ∷ kind ∷ []) ⌝ }
+// Puts an open row onto the stack, with so many values due behind it, and goes to its first value.
+fn open(stack: &mut [usize], depth: usize, c: Extent, left: usize, kind: u64) -> Extent
+    requires { ⌜ (4 * depth + 4 ≤ length (now stack)) × (c .row + 1 < 2 ^ 64) × (c .mark + 3 < 2 ^ 64) ⌝ }
+    ensures { λ r. ⌜ (r ≡ inside c kind) × (now (stack .exit) ≡ sets (now (stack .entry)) (4 * depth) (c .size ∷ c .mark ∷ left ∷ kind ∷ [])) ⌝ }
 {
     let k = FRAME * depth;
     stack[k] = c.size;
     stack[k + 1] = c.mark;
     stack[k + 2] = left;
     stack[k + 3] = kind as usize;
+    c.inside(kind)
 }
 
 // Behind the last value of an open row, which has so many bytes before it and its mark at that place.
@@ -375,6 +376,16 @@ fn close(marks: &mut [u8], size: usize, mark: usize, kind: u64, c: Extent) -> Ex
         size: size + (open_head(kind, c.size) + c.size),
         mark: c.mark,
     }
+}
+
+// Takes the innermost open row from the stack, behind its last value.
+fn shut(stack: &[usize], depth: usize, marks: &mut [u8], c: Extent) -> Extent
+    requires { ⌜ (4 * depth + 4 ≤ length (now stack)) × (getD (now stack) (4 * depth) 0 + 9 + c .size < 2 ^ 64) ⌝ }
+    ensures { λ r. ⌜ (r ≡ closed (getD (now (stack .entry)) (4 * depth) 0) (getD (now (stack .entry)) (4 * depth + 3) 0) c)
+        × MarkPut (now (marks .entry)) (getD (now (stack .entry)) (4 * depth + 1) 0) (getD (now (stack .entry)) (4 * depth + 3) 0) (c .size) (now (marks .exit)) ⌝ }
+{
+    let k = FRAME * depth;
+    close(marks, stack[k], stack[k + 1], stack[k + 3] as u64, c)
 }
 
 // Are values due, or rows open.
@@ -408,30 +419,22 @@ pub(crate) fn size_values(
     while is_due(left, depth) {
         if left == 0 {
             depth -= 1;
-            let k = FRAME * depth;
-            left = stack[k + 2];
-            c = close(marks, stack[k], stack[k + 1], stack[k + 3] as u64, c);
+            left = stack[FRAME * depth + 2];
+            c = shut(&stack, depth, marks, c);
         } else {
+            let here = levels - depth;
             left -= 1;
-            match take_row(words, text, c.row, c.text, levels - depth) {
+            match take_row(words, text, c.row, c.text, here) {
                 Taken::Number(size) => c = c.past(0, size),
                 Taken::Letters(letters, size) => c = c.past(letters, size),
                 Taken::Open(kind, children) => {
-                    let first = c.inside(kind);
                     if depth < NEST {
-                        push(&mut stack, depth, c, left, kind);
+                        c = open(&mut stack, depth, c, left, kind);
                         depth += 1;
-                        c = first;
                         left = children;
                     } else {
-                        let below = size_values(
-                            words,
-                            text,
-                            children,
-                            levels - depth - 1,
-                            marks,
-                            first,
-                        );
+                        let first = c.inside(kind);
+                        let below = size_values(words, text, children, here - 1, marks, first);
                         let Sized::Fits(e) = below else {
                             return below;
                         };
@@ -439,7 +442,7 @@ pub(crate) fn size_values(
                     }
                 }
                 Taken::Other => {
-                    let one = size_row(words, text, levels - depth, marks, c);
+                    let one = size_row(words, text, here, marks, c);
                     let Sized::Fits(e) = one else {
                         return one;
                     };
