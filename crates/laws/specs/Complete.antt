@@ -11,10 +11,11 @@ use Rattle.standard.specs.Answer.{Answer, got}
 use Rattle.standard.specs.Bytes.{unbe}
 use Rattle.standard.specs.Tree.{Tree, Trees}
 use Rattle.standard.specs.Codes.{Scalar, Layout, unknown, described, scalar, compound, array, layoutOf, isCode, element}
-use Rattle.standard.specs.Kinds.{fair, clean, paired}
+use Rattle.standard.specs.Kinds.{fair, paired}
 use Rattle.standard.specs.Grammar.{Plain, constant′, whole′, small′, raw′, sized′, Many, none′, more′, Leaf, leaf′, Fields, fields′, Coded, coded′, Items, empty′, items′, Shape, scalar′, described′, compound′, array′, Payload, Form}
 use Rattle.standard.specs.Read.{cut, plain, leaf, many, done, fields, held, items, inside, coded, behind, payload, value}
 use Rattle.standard.specs.Facts.{T-true}
+use Rattle.laws.specs.Sequences.{good-clean}
 
 pub cut-at : (p w : ℕ) (a b : List ℕ) → length a ≡ w → cut p w (a ++ b) ≡ got (a, b)
 unfolding cut
@@ -30,7 +31,7 @@ plain-complete (sized′ {w = w} a {t = t} h e f) p rest = rw (append-assoc, cut
 
 pub leaf-complete : {s : Scalar} {k : ℕ} {v : Tree} {bs : List ℕ} → Leaf s k v bs → (p : ℕ) (rest : List ℕ) → leaf s k p (bs ++ rest) ≡ got (v, rest)
 unfolding leaf
-leaf-complete {k = k} (leaf′ {n = n} {t = t} h f g) p rest = rw (plain-complete h p rest, T-true (fair k n) f, T-true (clean k t) g)
+leaf-complete {k = k} (leaf′ {n = n} {t = t} h f g) p rest = rw (plain-complete h p rest, T-true (fair k n) f, good-clean g)
 
 pub fields-complete : {w n : ℕ} {hs bs : List ℕ} → Fields w n hs bs → (p : ℕ) (rest : List ℕ) → fields p w ((hs ++ bs) ++ rest) ≡ got (n, bs, rest)
 unfolding fields

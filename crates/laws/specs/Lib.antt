@@ -5,6 +5,7 @@ pub mod Demand2
 pub mod Demand3
 pub mod ShutOut
 pub mod Numbers
+pub mod Sequences
 pub mod Answers
 pub mod Complete
 pub mod Sound

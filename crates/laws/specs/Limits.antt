@@ -12,10 +12,12 @@ use Rattle.standard.specs.Choose.{lookup}
 use Rattle.standard.specs.Bytes.{unbe}
 use Rattle.standard.specs.Tree.{Tree, node, Trees, none, more, root, count, rows, rows*}
 use Rattle.standard.specs.Codes.{Scalar, constant, whole, small, raw, sized, Layout, unknown, described, scalar, compound, array, Entry, entry, codes, entryOf, layoutOf, kindOf, filled, element}
-use Rattle.standard.specs.Kinds.{Short, Style, foreign, numbered, blob, lettered, listed, mapped, arrayed, describing, kinds, styleOf, isKind, plain, fair, clean, paired}
+use Rattle.standard.specs.Utf8.{GoodText}
+use Rattle.standard.specs.Kinds.{Short, Style, foreign, numbered, blob, lettered, listed, mapped, arrayed, describing, kinds, styleOf, isKind, plain, fair, paired}
 use Rattle.standard.specs.Grammar.{extend, negative, Plain, constant′, whole′, small′, raw′, sized′, Many, none′, more′, leaf′, Coded, coded′, Items, empty′, items′, Shape, scalar′, described′, compound′, array′, Payload, Formed}
 use Rattle.standard.specs.Table.{most, Spot, any, first, like, allowed, ranged, letters, children, firstIn, next, All, Valid}
 use Rattle.standard.specs.Facts.{and-left, if-case, clean-nil}
+use Rattle.laws.specs.Sequences.{clean-good}
 use Rattle.laws.specs.Numbers.{Bytes, bytes-split, unbe-small}
 use Rattle.laws.specs.Bounds.{rows-length}
 
@@ -114,8 +116,8 @@ leaf-fit {k = k} {n = n} {a = a} (small-number {w = w} h) (small′ i e) b f = (
 leaf-fit raw-blob (raw′ h) b f = (tt, λ m. tt, h, refl)
 leaf-fit sized-letters (sized′ a h e i) b f = (tt, λ m. m, i, refl)
 
-blank : (k : ℕ) → T (clean k [])
-blank k = rw (clean-nil k) tt
+blank : (k : ℕ) → GoodText k []
+blank k = clean-good k [] (rw (clean-nil k) tt)
 
 -- Rows one after another
 
@@ -182,7 +184,7 @@ module _ (l : ℕ) (g : PayloadValid l) where
 
   -- P holds of what was read, if it holds of every row of which this much is known
   shape-fit : (P : Tree → Type 0) {k : ℕ} {y : Layout} {s : Style} {v : Tree} {a : List ℕ} → Suits k y s → Shape (Payload l) k y v a → Bytes a
-      → ((n : ℕ) (t : List ℕ) (cs : Trees) → Fit s k n t cs → T (clean k t) → (Limited (rows* cs) → All (λ d v. Valid l d v) (firstIn s n) cs) → P (node k n t cs)) → P v
+      → ((n : ℕ) (t : List ℕ) (cs : Trees) → Fit s k n t cs → GoodText k t → (Limited (rows* cs) → All (λ d v. Valid l d v) (firstIn s n) cs) → P (node k n t cs)) → P v
   unfolding limited ranged letters children isKind firstIn paired
   shape-fit P u (scalar′ (leaf′ {n = n} {t = t} h f i)) b q = q n t none (leaf-fit u h b f) i (λ m. tt)
   shape-fit P {k = k} described-pair (described′ {vs = vs} h) b q = q 2 [] vs (tt, λ m. tt, refl, many-full h) (blank k) (values-valid h b)

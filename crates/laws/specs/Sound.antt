@@ -13,6 +13,7 @@ use Rattle.standard.specs.Codes.{Scalar, constant, whole, small, raw, sized, La
 use Rattle.standard.specs.Kinds.{fair, clean, paired}
 use Rattle.standard.specs.Grammar.{Plain, constant′, whole′, small′, raw′, sized′, Many, none′, more′, Leaf, leaf′, Fields, fields′, Coded, coded′, Items, empty′, items′, Shape, scalar′, described′, compound′, array′, Payload, Form}
 use Rattle.standard.specs.Read.{cut, plain, leaf, many, done, fields, held, items, inside, coded, behind, payload, value}
+use Rattle.laws.specs.Sequences.{clean-good}
 use Rattle.laws.specs.Answers.{Holds, yes′, no′, on, weaken, need-holds, Left}
 
 cut-sound : (p w : ℕ) (r : List ℕ) → Holds (λ x. (r ≡ x .0 ++ x .1) × (length (x .0) ≡ w)) (cut p w r)
@@ -35,7 +36,7 @@ Sound f P = (p : ℕ) (r : List ℕ) → Holds (λ x. Left (P (x .0)) r (x .1)) 
 leaf-sound : (s : Scalar) (k : ℕ) → Sound (λ p r. leaf s k p r) (Leaf s k)
 unfolding leaf
 leaf-sound s k p r = on (plain-sound s p r) (λ x h. on (need-holds (fair k (x .0)) payloadBad (at p)) (λ u f. on (need-holds (clean k (x .1)) payloadBad (at p)) (λ u t.
-    yes′ record { front = h .front; split = h .split; holds = leaf′ (h .holds) f t })))
+    yes′ record { front = h .front; split = h .split; holds = leaf′ (h .holds) f (clean-good k (x .1) t) })))
 
 many-sound : {P : Tree → List ℕ → Type 0} {f : ℕ → List ℕ → Answer (Tree × List ℕ)} → Sound f P → (n p : ℕ) (r : List ℕ) → Holds (λ x. Left (Many P n (x .0)) r (x .1)) (many f n p r)
 unfolding many

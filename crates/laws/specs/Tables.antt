@@ -11,6 +11,7 @@ use Rattle.standard.specs.Tree.{Tree, node, Trees, none, more, root, count, row
 use Rattle.standard.specs.Kinds.{styleOf, isKind, clean}
 use Rattle.standard.specs.Table.{Spot, any, allowed, ranged, letters, children, firstIn, next, All, Valid, letter, several, row, tree, spent, table}
 use Rattle.standard.specs.Facts.{T-true}
+use Rattle.laws.specs.Sequences.{good-clean, clean-good}
 use Rattle.laws.specs.Answers.{Holds, yes′, no′, on, out, need-holds}
 use Rattle.laws.specs.Bounds.{rows-length}
 
@@ -44,7 +45,7 @@ tree-complete (suc l) c (node k n t cs) h i r x =
       T-true (ranged (styleOf k) k n) (h .0 .inRange),
       append-assoc t (text* cs) x,
       letter-at i (letters (styleOf k) n) t (text* cs ++ x) (h .0 .long),
-      T-true (clean k t) (h .0 .good),
+      good-clean (h .0 .good),
       ← h .0 .full,
       several-complete (Valid l) (λ c i w x. tree l c i w x) (tree-complete l) cs (firstIn (styleOf k) n) (h .1) (i + 1) r x,
     )
@@ -78,7 +79,7 @@ tree-sound (suc l) c i (k ∷ n ∷ w) x =
     yes′ (
       ap (λ (z : List ℕ). k ∷ n ∷ z) (j .0),
       rw (append-assoc (a .0) (text* (b .0)) (b .2), ← j .1) (h .0),
-      (record { known = o; fits = p; inRange = q; long = h .1; good = s; full = j .2 }, j .3),
+      (record { known = o; fits = p; inRange = q; long = h .1; good = clean-good k (a .0) s; full = j .2 }, j .3),
     )))))))
 
 -- every valid value has a table, and the table holds it

@@ -10,7 +10,8 @@ use Rattle.standard.specs.Choose.{if, lookup}
 use Rattle.standard.specs.Bytes.{be, unbe}
 use Rattle.standard.specs.Tree.{Tree, node, Trees, none, more, root, count}
 use Rattle.standard.specs.Codes.{constant, whole, small, raw, sized, Layout, described, scalar, compound, array, entry, codes, entryOf, layoutOf, kindOf, filled, element}
-use Rattle.standard.specs.Kinds.{Short, never, flag, unsigned, signed, Style, foreign, numbered, blob, lettered, listed, mapped, arrayed, describing, Kind, kind, kinds, styleOf, plain, fair, clean, paired}
+use Rattle.standard.specs.Utf8.{GoodText}
+use Rattle.standard.specs.Kinds.{Short, never, flag, unsigned, signed, Style, foreign, numbered, blob, lettered, listed, mapped, arrayed, describing, Kind, kind, kinds, styleOf, plain, fair, paired}
 use Rattle.standard.specs.Grammar.{extend, negative, constant′, whole′, small′, raw′, sized′, Many, none′, more′, Leaf, leaf′, Fields, fields′, coded′, Items, empty′, items′, Shape, scalar′, described′, compound′, array′, Payload, Form, Formed}
 use Rattle.standard.specs.Table.{most, Spot, any, first, like, allowed, ranged, letters, children, firstIn, next, Row, All, Valid}
 use Rattle.standard.specs.Encode.{fitsByte, shortEnd, shortest, enclosed, compact, wide, headed, encode, encode*, item, payloads}
@@ -127,15 +128,15 @@ short-signed (suc w) n h i t = go (ltb n 128) refl t (ltb (unbe (be 1 n)) 128) r
     go false e t true f = omega (arith, low-byte n, leb→le (256 ^ suc w - 128) n t, ltb→lt (unbe (be 1 n)) 128 (rw f tt))
     go false e t false f = omega (arith, low-byte n, leb→le (256 ^ suc w - 128) n t, nltb→le n 128 (rw e tt), nltb→le (unbe (be 1 n)) 128 (rw f tt))
 
-whole-leaf : (k n w : ℕ) → n < 256 ^ w → T (fair k n) → T (clean k []) → Leaf (whole w) k (node k n [] none) (be w n)
+whole-leaf : (k n w : ℕ) → n < 256 ^ w → T (fair k n) → GoodText k [] → Leaf (whole w) k (node k n [] none) (be w n)
 whole-leaf k n w h f g = leaf′ (whole′ (length-be w n) (unbe-be w n h)) f g
 
-flag-form : (l y x k w n : ℕ) → Shorter k w (flag y x) → T (fair k n) → T (clean k []) → n ≤ 1 → Form (suc l) (node k n [] none) (if (eqb n 0) (x ∷ []) (y ∷ []))
+flag-form : (l y x k w n : ℕ) → Shorter k w (flag y x) → T (fair k n) → GoodText k [] → n ≤ 1 → Form (suc l) (node k n [] none) (if (eqb n 0) (x ∷ []) (y ∷ []))
 flag-form l y x k w zero a f g h = form l (a .1) (scalar′ (leaf′ constant′ f g))
 flag-form l y x k w (suc zero) a f g h = form l (a .0) (scalar′ (leaf′ constant′ f g))
 flag-form l y x k w (suc (suc n)) a f g h = absurd (omega arith)
 
-number-form : (s : Short) (l k w n : ℕ) → Code k k (scalar (whole w)) → Shorter k w s → n < 256 ^ w → T (fair k n) → T (clean k []) → Form (suc l) (node k n [] none) (shortest s w k n)
+number-form : (s : Short) (l k w n : ℕ) → Code k k (scalar (whole w)) → Shorter k w s → n < 256 ^ w → T (fair k n) → GoodText k [] → Form (suc l) (node k n [] none) (shortest s w k n)
 unfolding shortest
 number-form never l k w n c a h f g = form l c (scalar′ (whole-leaf k n w h f g))
 number-form (flag y x) l k w n c a h f g = flag-form l y x k w n a f g (a .2 n f)
@@ -188,7 +189,7 @@ no-text (x ∷ t) e = absurd (omega arith)
 record Fit (s : Style) (k n : ℕ) (t : List ℕ) (cs : Trees) : Type 0 where
   inRange : T (ranged s k n)
   long : length t ≡ letters s n
-  good : T (clean k t)
+  good : GoodText k t
   full : count cs ≡ children s n
 
 -- a row as a value, from its children as values and as elements

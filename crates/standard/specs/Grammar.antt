@@ -7,9 +7,10 @@ use lib.Dec.{T, ltb}
 use lib.ListN.{length}
 use Rattle.standard.specs.Choose.{if}
 use Rattle.standard.specs.Bytes.{unbe}
+use Rattle.standard.specs.Utf8.{GoodText}
 use Rattle.standard.specs.Tree.{Tree, node, Trees, none, more}
 use Rattle.standard.specs.Codes.{Scalar, constant, whole, small, raw, sized, Layout, described, scalar, compound, array, layoutOf, kindOf, element}
-use Rattle.standard.specs.Kinds.{fair, clean, paired, named}
+use Rattle.standard.specs.Kinds.{fair, paired, named}
 
 -- a byte of 128 or more, two's complement, in w bytes
 unfoldable pub negative : (width byte : ℕ) → ℕ
@@ -29,7 +30,7 @@ pub data Plain : Scalar → (number : ℕ) → (text bytes : List ℕ) → Type 
 
 -- a scalar of kind k: its number and its text are held to what the kind allows
 pub data Leaf (s : Scalar) (k : ℕ) : Tree → List ℕ → Type 0 where
-  leaf′ : {n : ℕ} {t bs : List ℕ} → Plain s n t bs → T (fair k n) → T (clean k t) → Leaf s k (node k n t none) bs
+  leaf′ : {n : ℕ} {t bs : List ℕ} → Plain s n t bs → T (fair k n) → GoodText k t → Leaf s k (node k n t none) bs
 
 -- values one after another, each as P says
 pub data Many (P : Tree → List ℕ → Type 0) : (count : ℕ) → Trees → List ℕ → Type 0 where

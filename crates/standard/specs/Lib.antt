@@ -2,6 +2,7 @@
 pub mod Answer
 pub mod Choose
 pub mod Bytes
+pub mod Utf8
 pub mod Text
 pub mod Codes
 pub mod Kinds

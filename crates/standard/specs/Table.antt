@@ -6,6 +6,7 @@ use mathlib.Core.Bool.{Bool, true, false, _&&_}
 use lib.Dec.{T, eqb, leb, ltb}
 use lib.ListN.{length, take, drop}
 use Rattle.standard.specs.Answer.{Answer, got, refuse, at, _>>=_, _>>_, need, rowsAmiss, kindUnknown, tooDeep, elementUnfit, numberOutside, textAmiss}
+use Rattle.standard.specs.Utf8.{GoodText}
 use Rattle.standard.specs.Tree.{Tree, node, Trees, none, more, root, count}
 use Rattle.standard.specs.Kinds.{Style, foreign, numbered, blob, lettered, listed, mapped, arrayed, describing, styleOf, isKind, plain, fair, clean}
 
@@ -78,7 +79,7 @@ pub record Row (c : Spot) (k n : ℕ) (t : List ℕ) (cs : Trees) : Type 0 where
   pub fits : T (allowed c k)
   pub inRange : T (ranged (styleOf k) k n)
   pub long : length t ≡ letters (styleOf k) n
-  pub good : T (clean k t)
+  pub good : GoodText k t
   pub full : count cs ≡ children (styleOf k) n
 
 -- each of these trees, from that spot on

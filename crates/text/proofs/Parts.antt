@@ -12,7 +12,7 @@ use Rattle.standard.specs.Text.{Sequence, utf8, ascii, leadIn, flawless, faultD
 use Rattle.standard.specs.Kinds.{flaw, clean}
 use Rattle.standard.specs.Facts.{T-true, if-case, clean-nil}
 use Rattle.text.specs.Steps.{asciiRun}
-use Rattle.text.proofs.Sequences.{none-due}
+use Rattle.laws.specs.Sequences.{none-due}
 use Rattle.text.proofs.Ascii.{single}
 
 take-least : (m n : ℕ) (bs : List ℕ) → m ≡ min n (length bs) → take m bs ≡ take n bs

@@ -6,18 +6,15 @@ use mathlib.Core.Bool.{Bool, true, false, _&&_}
 use native.Mathlib.Nat.{add-zero, add-suc, suc-add}
 use native.Mathlib.Numerals.{add-one}
 use native.Mathlib.Omega.{arith}
-use borrow.Author.Tests.{le-leb, lt-leb}
-use lib.Dec.{T, leb}
+use borrow.Author.Tests.{lt-leb}
+use lib.Dec.{T}
 use lib.ListN.{length, drop, getD, length-drop, drop-of-length-le}
 use lib.Seq.{drop-cons, drop-drop}
 use Rattle.standard.specs.Choose.{if}
 use Rattle.standard.specs.Text.{Range, within, Sequence, Lead, stray, then, leadIn, Fault, flawless, fault, led, faultDue}
 use Rattle.text.specs.Steps.{stand, widthBy, widthIn}
+use Rattle.laws.specs.Sequences.{none-due}
 use Rattle.standard.specs.Facts.{and-right, if-case}
-
-and-false : (a : Bool) → a && false ≡ false
-and-false true = refl
-and-false false = refl
 
 and-true : (a : Bool) → a && true ≡ a
 and-true true = refl
@@ -26,18 +23,6 @@ and-true false = refl
 if-and : {A : Type 0} (a b : Bool) (x y : A) → if (a && b) x y ≡ if a (if b x y) y
 if-and true b x y = refl
 if-and false b x y = refl
-
--- the first k rows end below b
-abbrev pub Past : ℕ → List Sequence → ℕ → Type 0
-Past zero ss b = Unit {0}
-Past (suc k) [] b = Unit {0}
-Past (suc k) (s ∷ ss) b = (s .lead .hi < b) × Past k ss b
-
-pub past : (k : ℕ) (ss : List Sequence) (b : ℕ) → Past k ss b → leadIn ss b ≡ leadIn (drop k ss) b
-unfolding leadIn
-past zero ss b h = refl
-past (suc k) [] b h = refl
-past (suc k) (s ∷ ss) b h = rw (lt-leb b (s .lead .hi) (h .0), and-false (leb (s .lead .lo) b)) (past k ss b (h .1))
 
 -- every row begins above b
 abbrev pub Below : List Sequence → ℕ → Type 0
@@ -48,11 +33,6 @@ pub below : (ss : List Sequence) (b : ℕ) → Below ss b → leadIn ss b ≡ st
 unfolding leadIn
 below [] b h = refl
 below (s ∷ ss) b h = rw (lt-leb (s .lead .lo) b (h .0)) (below ss b (h .1))
-
--- the first row holds b
-pub here : (s : Sequence) (ss : List Sequence) (b : ℕ) → s .lead .lo ≤ b → b ≤ s .lead .hi → leadIn (s ∷ ss) b ≡ then (s .rest)
-unfolding leadIn
-here s ss b l h = rw (le-leb (s .lead .lo) b l, le-leb b (s .lead .hi) h)
 
 -- What stands there
 
@@ -99,12 +79,6 @@ unfolding faultDue stand
 due ss s p bs [] = rw add-zero
 due ss s p [] (r ∷ rs) = refl
 due ss s p (b ∷ bs) (r ∷ rs) = rw (if-and (within r b) (stand rs bs), add-suc p (length rs), ← suc-add p (length rs), due ss s (suc p) bs rs)
-
--- where no byte is due, it does not matter where the last sequence began
-pub none-due : (ss : List Sequence) (s t p : ℕ) (bs : List ℕ) → faultDue ss s p bs [] ≡ faultDue ss t p bs []
-unfolding faultDue
-none-due ss s t p [] = refl
-none-due ss s t p (b ∷ bs) = refl
 
 abbrev stepped : (width : ℕ) → (place : ℕ) → Fault → Fault
 stepped zero p f = fault p

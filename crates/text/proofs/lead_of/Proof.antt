@@ -2,7 +2,8 @@
 use mathlib.Core.Path.{sym, _∙_}
 use native.Mathlib.Omega.{arith}
 use Rattle.standard.specs.Text.{leadIn, utf8}
-use Rattle.text.proofs.Sequences.{past, below, here}
+use Rattle.laws.specs.Sequences.{past, here}
+use Rattle.text.proofs.Sequences.{below}
 use Rattle.text.proofs.lead_of.Statement.{statement}
 use Rattle.text.proofs.lead_of.Tie as tie
 
