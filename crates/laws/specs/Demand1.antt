@@ -4,20 +4,25 @@
 -- That it takes everything and ends is the language's part: no public function has a `requires`, and the prover accepts a function only if it ends on
 -- each input that its `requires` allows, with every index in range, no sum that wraps and no cast that loses bits. What it answers and what lent
 -- memory holds afterwards is then an outcome of Outcomes.antt, a function of the inputs. Here is what holds of these outcomes, at every level limit.
-use Prim.Native.Nat.{ℕ, _*_, _-_, _/_, _≤_}
+--
+-- In which case each refusal comes is said by the definitions, check by check, in the order of docs/FORMAT.md, 5.2 and 5.3, and the outcomes are made of
+-- nothing else: 1 to 6 by `table` of Table.antt (odd words, then `tree` and `row` for each row, then `spent` for what is left); 7 by `bytesOf` and 8 by `write` of
+-- Outcomes.antt; 3, 4 and 9 to 12 by `front` of Read.antt (`coded`, `behind`, `fields`, `items`, `leaf`, `done`); 13 and 14 by `read` of Outcomes.antt. A step of the
+-- walker refuses as measuring does, at its own place. That such a refusal comes exactly where no value is well-formed, is `whenever` and `reported` of Demand3.antt.
+use Prim.Native.Nat.{ℕ, _*_, _-_, _/_, _≤_, _<_}
 use mathlib.Core.Path.{_≡_, refl, ap, _∙_}
 use mathlib.Core.List.{List, [], _∷_}
 use mathlib.Core.Bool.{Bool, true, false}
 use native.Mathlib.Omega.{arith}
 use lib.Dec.{T, leb, leb→le}
-use lib.ListN.{length, drop, length-append, length-drop}
-use lib.Seq.{drop-at}
+use lib.ListN.{length, drop, length-append, length-drop, drop-of-length-le}
+use lib.Seq.{drop-at, drop-cons}
 use Rattle.standard.specs.Answer.{Answer, got, refuse, Place, at, _>>=_, _>>_, need, outputShort, rowsShort, textShort}
 use Rattle.standard.specs.Tree.{Tree, tall, rows, text}
 use Rattle.standard.specs.Read.{front}
-use Rattle.standard.specs.Outcomes.{over, bytesOf, size, writtenTo, write, Extent, extent, measure, Reading, readInto, read, refused, stepped, stepIn, step}
+use Rattle.standard.specs.Outcomes.{over, bytesOf, size, writtenTo, write, Extent, extent, measure, Reading, readInto, read, end, refused, stepped, stepIn, step}
 use Rattle.laws.specs.Bounds.{rows-length}
-use Rattle.laws.specs.Ranges.{Within, ofSize, ofWrite, ofMeasure, ofRead, size-range, write-range, measure-range, read-range}
+use Rattle.laws.specs.Ranges.{Within, ofSize, ofWrite, ofMeasure, ofRead, size-range, write-range, measure-range, read-range, StepRange, step-range}
 
 -- a lent buffer of which the first n are filled and no other is touched
 pub record Filled (n : ℕ) (before after : List ℕ) : Type 0 where
@@ -64,6 +69,10 @@ pub record Demand1 : Type 0 where
   pub reading : (l : ℕ) (r w x : List ℕ) → read l r w x .answer ≡ roomsFor w x (measure l r)
   -- a refusal leaves words and text as they were; what is read fills their fronts and touches nothing beyond
   pub rooms : (l : ℕ) (r w x : List ℕ) → Rooms (read l r w x .answer) w (read l r w x .words) x (read l r w x .letters)
+  -- a step of the walker is at the end, or hands out at least a byte, or refuses as measuring does of what is left
+  pub stepNumbers : (l : ℕ) (r : List ℕ) (i : ℕ) → StepRange (step l r i .answer)
+  pub stepping : (l : ℕ) (r : List ℕ) (i : ℕ) → i < length r → step l r i ≡ stepped i (measure l (drop i r))
+  pub ending : (l : ℕ) (r : List ℕ) (i : ℕ) → length r ≤ i → step l r i ≡ record { answer = end; at = i }
   -- a walker that is refused stays
   pub stays : (l : ℕ) (r : List ℕ) (i n : ℕ) (p : Place) → step l r i .answer ≡ refused n p → step l r i .at ≡ i
 
@@ -142,6 +151,16 @@ rooms-of w x n (got (v, z)) = by (leb (tall v) (length w / 2)) (leb (length (tex
     by true false h i = (refl, refl)
     by false c h i = (refl, refl)
 
+-- a step at the end of the bytes, or beyond it
+pub step-end : (l i : ℕ) (r : List ℕ) → length r ≤ i → step l r i ≡ record { answer = end; at = i }
+unfolding step stepIn
+step-end l i r h = rw (drop-of-length-le r {i = i} h)
+
+-- a step where bytes are left
+pub step-on : (l i : ℕ) (r : List ℕ) → i < length r → step l r i ≡ stepped i (measure l (drop i r))
+unfolding step stepIn
+step-on l i r h = rw (drop-cons r i 0 h)
+
 stays-at : (l i : ℕ) (r : List ℕ) (n : ℕ) (p : Place) → stepIn l i r .answer ≡ refused n p → stepIn l i r .at ≡ i
 unfolding stepIn stepped
 stays-at l i [] n p e = refl
@@ -162,5 +181,8 @@ demand1 = record {
   output = λ l w x o. output-of o (bytesOf l w x);
   reading = λ l r w x. reading-of w x (length r) (front l r);
   rooms = λ l r w x. rooms-of w x (length r) (front l r);
+  stepNumbers = step-range;
+  stepping = λ l r i. step-on l i r;
+  ending = λ l r i. step-end l i r;
   stays = λ l r i n p. stays-at l i (drop i r) n p;
 }

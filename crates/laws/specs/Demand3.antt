@@ -29,9 +29,10 @@ pub record Demand3 : Type 0 where
   pub apart : (l : ℕ) (w x a u y b z : List ℕ) → bytesOf l w x ≡ got a → bytesOf l u y ≡ got b → b ≡ a ++ z → (w ≡ u) × (x ≡ y)
   -- of all bytes that arrive at most one beginning is well-formed, and it is the bytes of one value
   pub one : (l : ℕ) (r a b y z : List ℕ) (v u : Tree) → r ≡ a ++ y → Formed l v a → r ≡ b ++ z → Formed l u b → (a ≡ b) × (v ≡ u)
-  -- its length is reported exactly when there is one
+  -- its length is reported exactly when there is one; reading reports no other
   pub reported : (l : ℕ) (r : List ℕ) (e : Extent) → measure l r ≡ got e → Begins l r e
   pub whenever : (l : ℕ) (r : List ℕ) (e : Extent) → Begins l r e → measure l r ≡ got e
+  pub reported-read : (l : ℕ) (r w x : List ℕ) (e : Extent) → read l r w x .answer ≡ got e → Begins l r e
   -- what stands behind changes nothing: neither what is measured, nor what is read
   pub behind : (l : ℕ) (r z : List ℕ) (e : Extent) → measure l r ≡ got e → measure l (take (e .length) r ++ z) ≡ got e
   pub behind-read : (l : ℕ) (r z w x : List ℕ) (e : Extent) → read l r w x .answer ≡ got e → read l (take (e .length) r ++ z) w x ≡ read l r w x
@@ -61,18 +62,26 @@ measures l r e = measured-of l r e (front l r) refl
 pub formed-measured : (l : ℕ) (v : Tree) (a z : List ℕ) → Formed l v a → measure l (a ++ z) ≡ got (extent v (length a))
 formed-measured l v a z h = measured l (a ++ z) z v (front-complete l v a z h) ∙ ap (λ (n : ℕ). got (extent v n)) (front-long a z (a ++ z) refl)
 
+front-of : (l : ℕ) (r : List ℕ) (e : Extent) (h : Begins l r e) → take (e .length) r ≡ h .front
+front-of l r e h = ap (λ k. take (k .length) r) (h .isExtent) ∙ ap (take (length (h .front))) (h .split) ∙ take-at (h .front) (h .behind) (length (h .front)) refl
+
 behind-all : (l : ℕ) (r z : List ℕ) (e : Extent) → measure l r ≡ got e → measure l (take (e .length) r ++ z) ≡ got e
 behind-all l r z e f =
     let h = measures l r e f in
-    let t : take (e .length) r ≡ h .front = ap (λ k. take (k .length) r) (h .isExtent) ∙ ap (take (length (h .front))) (h .split) ∙ take-at (h .front) (h .behind) (length (h .front)) refl in
-    ap (λ (a : List ℕ). measure l (a ++ z)) t ∙ formed-measured l (h .tree) (h .front) z (h .formed) ∙ ap got (sym (h .isExtent))
+    ap (λ (a : List ℕ). measure l (a ++ z)) (front-of l r e h) ∙ formed-measured l (h .tree) (h .front) z (h .formed) ∙ ap got (sym (h .isExtent))
 
-behind-reading : (l : ℕ) (r z w x : List ℕ) (e : Extent) → read l r w x .answer ≡ got e → read l (take (e .length) r ++ z) w x ≡ read l r w x
-behind-reading l r z w x e f =
+-- what is read is the value that the bytes begin with
+read-begins : (l : ℕ) (r w x : List ℕ) (e : Extent) → read l r w x .answer ≡ got e → Begins l r e
+read-begins l r w x e f =
     let h = demand2 .given l r w x e f in
     let j : _≡_ {A = Answer Extent} (got e) (got (extent (h .tree) (length (h .front)))) = sym f ∙ ap (λ k. k .answer) (h .outcome) in
-    let k : e ≡ extent (h .tree) (length (h .front)) = cc in
-    let t : take (e .length) r ≡ h .front = ap (λ k. take (k .length) r) k ∙ ap (take (length (h .front))) (h .split) ∙ take-at (h .front) (h .behind) (length (h .front)) refl in
+    record { tree = h .tree; front = h .front; behind = h .behind; split = h .split; formed = h .formed; isExtent = cc }
+
+behind-reading : (l : ℕ) (r z w x : List ℕ) (e : Extent) → read l r w x .answer ≡ got e → read l (take (e .length) r ++ z) w x ≡ read l r w x
+unfolding read-begins
+behind-reading l r z w x e f =
+    let h = demand2 .given l r w x e f in
+    let t : take (e .length) r ≡ h .front = front-of l r e (read-begins l r w x e f) in
     ap (λ (a : List ℕ). read l (a ++ z) w x) t ∙ demand2 .reads l (h .tree) (h .front) z w x (h .formed) (h .wordsFit) (h .textFits) ∙ sym (h .outcome)
 
 pub demand3 : Demand3
@@ -81,6 +90,7 @@ demand3 = record {
   one = λ l r a b y z v u e f g h. let k = unique l v u a b y z f h (sym e ∙ g) in (k .2, k .0);
   reported = measures;
   whenever = λ l r e h. ap (measure l) (h .split) ∙ formed-measured l (h .tree) (h .front) (h .behind) (h .formed) ∙ ap got (sym (h .isExtent));
+  reported-read = read-begins;
   behind = behind-all;
   behind-read = behind-reading;
 }

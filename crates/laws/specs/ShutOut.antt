@@ -1,11 +1,14 @@
--- Programs that no promise may let through, each shut out by a theorem: whoever keeps the promise is not this program. The promise is the equation to
--- an outcome of Outcomes.antt that the code's own contract states, for all inputs.
-use Prim.Native.Nat.{ℕ, _<_}
+-- Programs that no promise may let through, each shut out by a theorem: whoever keeps the promise is not this program. Promise and program speak of memory
+-- that can be lent, and of no other. Beside each theorem stands a program that it shuts out, which keeps the length of all that it is lent: the theorem
+-- is not true for want of such programs. The promise is the equation to an outcome of Outcomes.antt; that it is what the code's own contracts state is in the
+-- files ShutOut.antt of the writer and of the reader.
+use Prim.Native.Nat.{ℕ, zero, suc, _^_, _<_}
 use mathlib.Core.Path.{_≡_, refl, sym, ap, _∙_}
 use mathlib.Core.List.{List, [], _∷_}
 use native.Mathlib.Omega.{arith}
 use lib.Dec.{lit<}
-use Rattle.standard.specs.Answer.{Answer, got, refuse, at}
+use lib.ListN.{length}
+use Rattle.standard.specs.Answer.{Answer, got, refuse, at, outputShort, rowsShort}
 use Rattle.standard.specs.Choose.{lookup}
 use Rattle.standard.specs.Bytes.{be, spell}
 use Rattle.standard.specs.Codes.{codes, entryOf, isCode}
@@ -17,21 +20,64 @@ use Rattle.standard.specs.Encode.{encode, compact, shortest}
 use Rattle.standard.specs.Outcomes.{levelMost, over, bytesOf, Writing, writtenTo, write, Extent, measure, Reading, readInto, read, Step, end, part, Stepping, stepped, stepIn, step}
 use Rattle.laws.specs.Demand3.{Begins, demand3}
 
--- the promises of writing, of reading, of measuring and of the walker's step
+-- Memory that can be lent: numbers of so many bits, no more of them than memory holds
 
-abbrev pub Writes : ((words letters out : List ℕ) → Writing) → Type 0
-Writes f = (w x o : List ℕ) → f w x o ≡ write levelMost w x o
+abbrev pub Below : (bound : ℕ) → List ℕ → Type 0
+Below m [] = Unit {0}
+Below m (n ∷ ns) = (n < m) × Below m ns
 
-abbrev pub Reads : ((bytes words letters : List ℕ) → Reading) → Type 0
-Reads f = (r w x : List ℕ) → f r w x ≡ read levelMost r w x
+pub record Lent (bits : ℕ) (xs : List ℕ) : Type 0 where
+  pub each : Below (2 ^ bits) xs
+  pub few : length xs < 2 ^ 60
 
-abbrev pub Measures : ((bytes : List ℕ) → Answer Extent) → Type 0
-Measures f = (r : List ℕ) → f r ≡ measure levelMost r
+no-bytes : Lent 8 []
+no-bytes = record { each = tt; few = lit< tt }
 
-abbrev pub Steps : ((bytes : List ℕ) → (place : ℕ) → Stepping) → Type 0
-Steps f = (r : List ℕ) (i : ℕ) → f r i ≡ step levelMost r i
+one-byte : (b : ℕ) → b < 256 → Lent 8 (b ∷ [])
+one-byte b h = record { each = (h, tt); few = lit< tt }
 
--- the outcomes that tell: null and uint 0 written into one byte; bytes 40 and 43 read into one row; two nulls walked
+one-row : (k n : ℕ) → k < 256 → n < 256 → Lent 64 (k ∷ n ∷ [])
+one-row k n h i = record { each = (omega arith, (omega arith, tt)); few = lit< tt }
+
+-- Programs, as what they answer and leave for what they are lent; and the promises of writing, of reading, of measuring and of the walker's step
+
+abbrev pub Writer : Type 0
+Writer = (words letters out : List ℕ) → Writing
+
+abbrev pub Writes : Writer → Type 0
+Writes f = (w x o : List ℕ) → Lent 64 w → Lent 8 x → Lent 8 o → f w x o ≡ write levelMost w x o
+
+abbrev pub Reader : Type 0
+Reader = (bytes words letters : List ℕ) → Reading
+
+abbrev pub Reads : Reader → Type 0
+Reads f = (r w x : List ℕ) → Lent 8 r → Lent 64 w → Lent 8 x → f r w x ≡ read levelMost r w x
+
+abbrev pub Measurer : Type 0
+Measurer = (bytes : List ℕ) → Answer Extent
+
+abbrev pub Measures : Measurer → Type 0
+Measures f = (r : List ℕ) → Lent 8 r → f r ≡ measure levelMost r
+
+abbrev pub Walker : Type 0
+Walker = (bytes : List ℕ) → (place : ℕ) → Stepping
+
+abbrev pub Steps : Walker → Type 0
+Steps f = (r : List ℕ) (i : ℕ) → Lent 8 r → f r i ≡ step levelMost r i
+
+-- a program that does so, and keeps the length of what it is lent
+pub record AWriter (P : Writer → Type 0) : Type 0 where
+  pub program : Writer
+  pub does : P program
+  pub long : (w x o : List ℕ) → length (program w x o .out) ≡ length o
+
+pub record AReader (P : Reader → Type 0) : Type 0 where
+  pub program : Reader
+  pub does : P program
+  pub wordsLong : (r w x : List ℕ) → length (program r w x .words) ≡ length w
+  pub textLong : (r w x : List ℕ) → length (program r w x .letters) ≡ length x
+
+-- The outcomes that tell: null and uint 0 written into one byte; bytes 40 and 43 read into one row; two nulls walked
 
 null-written : write levelMost (0x40 ∷ 0 ∷ []) [] (0 ∷ []) ≡ record { answer = got 1; out = 0x40 ∷ [] }
 unfolding write writtenTo bytesOf table tree row several letter spent allowed ranged letters children firstIn styleOf lookup kinds isKind fair flaw encode compact shortest be
@@ -41,71 +87,224 @@ zero-written : write levelMost (0x70 ∷ 0 ∷ []) [] (0 ∷ []) ≡ record { an
 unfolding write writtenTo bytesOf table tree row several letter spent allowed ranged letters children firstIn styleOf lookup kinds isKind fair flaw encode compact shortest be
 zero-written = refl
 
-abbrev one-row : (kind : ℕ) → Reading
-one-row k = record { answer = got (record { length = 1; rows = 1; text = 0 }); words = k ∷ 0 ∷ []; letters = [] }
+abbrev read-row : (kind : ℕ) → Reading
+read-row k = record { answer = got (record { length = 1; rows = 1; text = 0 }); words = k ∷ 0 ∷ []; letters = [] }
 
-null-read : read levelMost (0x40 ∷ []) (0 ∷ 0 ∷ []) [] ≡ one-row 0x40
+null-read : read levelMost (0x40 ∷ []) (0 ∷ 0 ∷ []) [] ≡ read-row 0x40
 unfolding read readInto front value payload behind coded leaf plain cut codes entryOf isCode lookup spell fair flaw tall rows text
 null-read = refl
 
-zero-read : read levelMost (0x43 ∷ []) (0 ∷ 0 ∷ []) [] ≡ one-row 0x70
+zero-read : read levelMost (0x43 ∷ []) (0 ∷ 0 ∷ []) [] ≡ read-row 0x70
 unfolding read readInto front value payload behind coded leaf plain cut codes entryOf isCode lookup spell fair flaw tall rows text
 zero-read = refl
 
-two-nulls : List ℕ
+null-measured : measure levelMost (0x40 ∷ []) ≡ got (record { length = 1; rows = 1; text = 0 })
+unfolding measure front value payload behind coded leaf plain cut codes entryOf isCode lookup spell fair flaw tall rows text
+null-measured = refl
+
+unfoldable pub two-nulls : List ℕ
 two-nulls = 0x40 ∷ 0x40 ∷ []
+
+two-nulls-lent : Lent 8 two-nulls
+unfolding two-nulls
+two-nulls-lent = record { each = (lit< tt, (lit< tt, tt)); few = lit< tt }
 
 first-step : step levelMost two-nulls 0 ≡ record { answer = part 0 1; at = 1 }
 unfolding two-nulls step stepIn stepped measure front value payload behind coded leaf plain cut codes entryOf isCode lookup spell fair flaw tall rows text
 first-step = refl
 
-second-step : step levelMost two-nulls 1 ≡ record { answer = part 1 1; at = 2 }
+pub second-step : step levelMost two-nulls 1 ≡ record { answer = part 1 1; at = 2 }
 unfolding two-nulls step stepIn stepped measure front value payload behind coded leaf plain cut codes entryOf isCode lookup spell fair flaw tall rows text
 second-step = refl
+
+-- A writer that refuses everything
 
 abbrev pub Refused : {A : Type 0} → Answer A → Type 0
 Refused (got a) = ⊥
 Refused (refuse x p) = Unit {0}
 
--- a writer that refuses everything
-pub refuses-all : (f : (words letters out : List ℕ) → Writing) → Writes f → ((w x o : List ℕ) → Refused (f w x o .answer)) → ⊥
-refuses-all f k h = rw (k (0x40 ∷ 0 ∷ []) [] (0 ∷ []) ∙ null-written) at (h (0x40 ∷ 0 ∷ []) [] (0 ∷ []))
+abbrev pub RefusesAll : Writer → Type 0
+RefusesAll f = (w x o : List ℕ) → Lent 64 w → Lent 8 x → Lent 8 o → Refused (f w x o .answer)
 
--- a writer that writes 40 for every table
-pub writes-forty : (f : (words letters out : List ℕ) → Writing) → Writes f → ((w x o : List ℕ) → f w x o .out ≡ over (0x40 ∷ []) o) → ⊥
-writes-forty f k h =
-    let e : _≡_ {A = List ℕ} (0x43 ∷ []) (0x40 ∷ []) = sym (ap (λ r. r .out) (k (0x70 ∷ 0 ∷ []) [] (0 ∷ []) ∙ zero-written)) ∙ h (0x70 ∷ 0 ∷ []) [] (0 ∷ []) in
+refuser : AWriter RefusesAll
+refuser = record {
+  program = λ w x o. record { answer = refuse outputShort (at 0); out = o };
+  does = λ w x o a b c. tt;
+  long = λ w x o. refl;
+}
+
+-- what a writer that keeps the promise does with one row of kind k, number 0, and one byte
+told : (f : Writer) → Writes f → (k c : ℕ) → k < 256 → write levelMost (k ∷ 0 ∷ []) [] (0 ∷ []) ≡ record { answer = got 1; out = c ∷ [] } → f (k ∷ 0 ∷ []) [] (0 ∷ []) ≡ record { answer = got 1; out = c ∷ [] }
+told f p k c h e = p (k ∷ 0 ∷ []) [] (0 ∷ []) (one-row k 0 h (lit< tt)) no-bytes (one-byte 0 (lit< tt)) ∙ e
+
+pub refuses-all : (f : Writer) → Writes f → RefusesAll f → ⊥
+refuses-all f p h = rw (told f p 0x40 0x40 (lit< tt) null-written) at (h (0x40 ∷ 0 ∷ []) [] (0 ∷ []) (one-row 0x40 0 (lit< tt) (lit< tt)) no-bytes (one-byte 0 (lit< tt)))
+
+-- A writer that, wherever it says yes, has written 40
+
+abbrev pub WritesForty : Writer → Type 0
+WritesForty f = (w x o : List ℕ) (n : ℕ) → Lent 64 w → Lent 8 x → Lent 8 o → f w x o .answer ≡ got n → f w x o .out ≡ over (0x40 ∷ []) o
+
+-- it says yes wherever there is a byte
+forty : Writer
+forty w x [] = record { answer = refuse outputShort (at 0); out = [] }
+forty w x (b ∷ o) = record { answer = got 1; out = 0x40 ∷ o }
+
+forty-writer : AWriter WritesForty
+unfolding forty
+forty-writer = record { program = forty; does = λ w x o n a b c. does w x o n; long = long }
+  where
+    does : (w x o : List ℕ) (n : ℕ) → forty w x o .answer ≡ got n → forty w x o .out ≡ over (0x40 ∷ []) o
+    does w x [] n e = let z : _≡_ {A = ℕ} 0 1 = cc in absurd (omega arith)
+    does w x (b ∷ o) n e = refl
+
+    long : (w x o : List ℕ) → length (forty w x o .out) ≡ length o
+    long w x [] = refl
+    long w x (b ∷ o) = refl
+
+pub writes-forty : (f : Writer) → Writes f → WritesForty f → ⊥
+writes-forty f p h =
+    let t = told f p 0x70 0x43 (lit< tt) zero-written in
+    let e : _≡_ {A = List ℕ} (0x43 ∷ []) (0x40 ∷ []) =
+        sym (ap (λ r. r .out) t) ∙ h (0x70 ∷ 0 ∷ []) [] (0 ∷ []) 1 (one-row 0x70 0 (lit< tt) (lit< tt)) no-bytes (one-byte 0 (lit< tt)) (ap (λ r. r .answer) t) in
     let i : _≡_ {A = ℕ} 0x43 0x40 = cc in omega (arith, i)
 
--- a writer that says yes and writes nothing
-pub writes-nothing : (f : (words letters out : List ℕ) → Writing) → Writes f → ((w x o : List ℕ) → f w x o .out ≡ o) → ⊥
-writes-nothing f k h =
-    let e : _≡_ {A = List ℕ} (0x40 ∷ []) (0 ∷ []) = sym (ap (λ r. r .out) (k (0x40 ∷ 0 ∷ []) [] (0 ∷ []) ∙ null-written)) ∙ h (0x40 ∷ 0 ∷ []) [] (0 ∷ []) in
+-- A writer that says yes and writes nothing
+
+abbrev pub WritesNothing : Writer → Type 0
+WritesNothing f = (w x o : List ℕ) (n : ℕ) → Lent 64 w → Lent 8 x → Lent 8 o → f w x o .answer ≡ got n → f w x o .out ≡ o
+
+idler : AWriter WritesNothing
+idler = record {
+  program = λ w x o. record { answer = got 1; out = o };
+  does = λ w x o n a b c e. refl;
+  long = λ w x o. refl;
+}
+
+pub writes-nothing : (f : Writer) → Writes f → WritesNothing f → ⊥
+writes-nothing f p h =
+    let t = told f p 0x40 0x40 (lit< tt) null-written in
+    let e : _≡_ {A = List ℕ} (0x40 ∷ []) (0 ∷ []) =
+        sym (ap (λ r. r .out) t) ∙ h (0x40 ∷ 0 ∷ []) [] (0 ∷ []) 1 (one-row 0x40 0 (lit< tt) (lit< tt)) no-bytes (one-byte 0 (lit< tt)) (ap (λ r. r .answer) t) in
     let i : _≡_ {A = ℕ} 0x40 0 = cc in omega (arith, i)
 
--- a reader that gives one table always, wherever it gives one
-pub gives-one-table : (f : (bytes words letters : List ℕ) → Reading) → Reads f → (table : List ℕ) → ((r w x : List ℕ) (e : Extent) → f r w x .answer ≡ got e → f r w x .words ≡ over table w) → ⊥
-gives-one-table f k t h =
-    let a = k (0x40 ∷ []) (0 ∷ 0 ∷ []) [] ∙ null-read in
-    let b = k (0x43 ∷ []) (0 ∷ 0 ∷ []) [] ∙ zero-read in
-    let one : Extent = record { length = 1; rows = 1; text = 0 } in
-    let c = h (0x40 ∷ []) (0 ∷ 0 ∷ []) [] one (ap (λ r. r .answer) a) in
-    let d = h (0x43 ∷ []) (0 ∷ 0 ∷ []) [] one (ap (λ r. r .answer) b) in
-    let e : _≡_ {A = List ℕ} (0x40 ∷ 0 ∷ []) (0x70 ∷ 0 ∷ []) = sym (ap (λ r. r .words) a) ∙ c ∙ sym d ∙ ap (λ r. r .words) b in
-    let i : _≡_ {A = ℕ} 0x40 0x70 = cc in omega (arith, i)
+-- A reader that, wherever it gives a table, gives always the same
 
--- a reader that reports a length, rows or text that it made up: of no well-formed beginning
-pub makes-up : (f : (bytes : List ℕ) → Answer Extent) → Measures f → (r : List ℕ) (e : Extent) → f r ≡ got e → (Begins levelMost r e → ⊥) → ⊥
-makes-up f k r e h none = none (demand3 .reported levelMost r e (sym (k r) ∙ h))
+abbrev pub GivesOneTable : (table : List ℕ) → Reader → Type 0
+GivesOneTable t f = (r w x : List ℕ) (e : Extent) → Lent 8 r → Lent 64 w → Lent 8 x → f r w x .answer ≡ got e → f r w x .words ≡ over t w
 
--- a walker that hands out the first value and then says done
-pub done-at-once : (f : (bytes : List ℕ) → (place : ℕ) → Stepping) → Steps f → ((r : List ℕ) (i : ℕ) → 0 < i → f r i .answer ≡ end) → ⊥
-done-at-once f k h =
-    let e : _≡_ {A = Step} (part 1 1) end = sym (ap (λ s. s .answer) (k two-nulls 1 ∙ second-step)) ∙ h two-nulls 1 (lit< tt) in
+-- it gives a null wherever there is room for a row
+nuller : Reader
+nuller r [] x = record { answer = refuse rowsShort (at 0); words = []; letters = x }
+nuller r (a ∷ []) x = record { answer = refuse rowsShort (at 0); words = a ∷ []; letters = x }
+nuller r (a ∷ b ∷ w) x = record { answer = got (record { length = 1; rows = 1; text = 0 }); words = 0x40 ∷ 0 ∷ w; letters = x }
+
+one-table-reader : AReader (GivesOneTable (0x40 ∷ 0 ∷ []))
+unfolding nuller
+one-table-reader = record { program = nuller; does = λ r w x e a b c. does r w x e; wordsLong = long; textLong = textual }
+  where
+    does : (r w x : List ℕ) (e : Extent) → nuller r w x .answer ≡ got e → nuller r w x .words ≡ over (0x40 ∷ 0 ∷ []) w
+    does r [] x e i = let z : _≡_ {A = ℕ} 0 1 = cc in absurd (omega arith)
+    does r (a ∷ []) x e i = let z : _≡_ {A = ℕ} 0 1 = cc in absurd (omega arith)
+    does r (a ∷ b ∷ w) x e i = refl
+
+    long : (r w x : List ℕ) → length (nuller r w x .words) ≡ length w
+    long r [] x = refl
+    long r (a ∷ []) x = refl
+    long r (a ∷ b ∷ w) x = refl
+
+    textual : (r w x : List ℕ) → length (nuller r w x .letters) ≡ length x
+    textual r [] x = refl
+    textual r (a ∷ []) x = refl
+    textual r (a ∷ b ∷ w) x = refl
+
+pub gives-one-table : (f : Reader) → Reads f → (table : List ℕ) → GivesOneTable table f → ⊥
+gives-one-table f p t h =
+    let i : (b k : ℕ) → b < 256 → read levelMost (b ∷ []) (0 ∷ 0 ∷ []) [] ≡ read-row k → _≡_ {A = List ℕ} (k ∷ 0 ∷ []) (over t (0 ∷ 0 ∷ [])) = λ b k o e.
+        let a = p (b ∷ []) (0 ∷ 0 ∷ []) [] (one-byte b o) (one-row 0 0 (lit< tt) (lit< tt)) no-bytes ∙ e in
+        sym (ap (λ r. r .words) a) ∙ h (b ∷ []) (0 ∷ 0 ∷ []) [] (record { length = 1; rows = 1; text = 0 }) (one-byte b o) (one-row 0 0 (lit< tt) (lit< tt)) no-bytes (ap (λ r. r .answer) a) in
+    let e : _≡_ {A = List ℕ} (0x40 ∷ 0 ∷ []) (0x70 ∷ 0 ∷ []) = i 0x40 0x40 (lit< tt) null-read ∙ sym (i 0x43 0x70 (lit< tt) zero-read) in
+    let j : _≡_ {A = ℕ} 0x40 0x70 = cc in omega (arith, j)
+
+-- A reader that reports a length, rows or text that it made up: of no well-formed beginning. It may do so in measuring or in reading
+
+pub record Invents (answer : Answer Extent) (bytes : List ℕ) : Type 0 where
+  pub lent : Lent 8 bytes
+  pub extent : Extent
+  pub says : answer ≡ got extent
+  pub untrue : Begins levelMost bytes extent → ⊥
+
+abbrev pub MakesUp : Measurer → Type 0
+MakesUp f = (r : List ℕ) × Invents (f r) r
+
+abbrev pub MakesUpReading : Reader → Type 0
+MakesUpReading f = (r w x : List ℕ) × Lent 64 w × Lent 8 x × Invents (f r w x .answer) r
+
+two-for-one : Extent
+two-for-one = record { length = 2; rows = 1; text = 0 }
+
+-- null has one byte, not two
+invented : Invents (got two-for-one) (0x40 ∷ [])
+unfolding two-for-one
+invented = record {
+  lent = one-byte 0x40 (lit< tt);
+  extent = two-for-one;
+  says = refl;
+  untrue = λ b.
+      let e : _≡_ {A = Answer Extent} (got (record { length = 1; rows = 1; text = 0 })) (got two-for-one) = sym null-measured ∙ demand3 .whenever levelMost (0x40 ∷ []) two-for-one b in
+      let i : _≡_ {A = Extent} (record { length = 1; rows = 1; text = 0 }) two-for-one = cc in
+      let j : _≡_ {A = ℕ} 1 2 = ap (λ (z : Extent). z .length) i in omega (arith, j);
+}
+
+inventor : (f : Measurer) × MakesUp f
+inventor = (λ r. got two-for-one, (0x40 ∷ [], invented))
+
+inventing-reader : AReader MakesUpReading
+inventing-reader = record {
+  program = λ r w x. record { answer = got two-for-one; words = w; letters = x };
+  does = (0x40 ∷ [], 0 ∷ 0 ∷ [], [], one-row 0 0 (lit< tt) (lit< tt), no-bytes, invented);
+  wordsLong = λ r w x. refl;
+  textLong = λ r w x. refl;
+}
+
+pub makes-up : (f : Measurer) → Measures f → MakesUp f → ⊥
+makes-up f p (r, h) = h .untrue (demand3 .reported levelMost r (h .extent) (sym (p r (h .lent)) ∙ h .says))
+
+pub makes-up-reading : (f : Reader) → Reads f → MakesUpReading f → ⊥
+makes-up-reading f p (r, w, x, a, b, h) = h .untrue (demand3 .reported-read levelMost r w x (h .extent) (ap (λ z. z .answer) (sym (p r w x (h .lent) a b)) ∙ h .says))
+
+-- A walker that hands out the first value and then says done
+
+abbrev pub DoneAtOnce : Walker → Type 0
+DoneAtOnce f = (r : List ℕ) (i : ℕ) → Lent 8 r → 0 < i → f r i .answer ≡ end
+
+hasty : Walker
+hasty r zero = record { answer = part 0 1; at = 1 }
+hasty r (suc i) = record { answer = end; at = suc i }
+
+hasty-walker : (f : Walker) × DoneAtOnce f
+unfolding hasty
+hasty-walker = (hasty, does)
+  where
+    does : DoneAtOnce hasty
+    does r zero a h = absurd (omega arith)
+    does r (suc i) a h = refl
+
+pub done-at-once : (f : Walker) → Steps f → DoneAtOnce f → ⊥
+done-at-once f p h =
+    let e : _≡_ {A = Step} (part 1 1) end = sym (ap (λ s. s .answer) (p two-nulls 1 two-nulls-lent ∙ second-step)) ∙ h two-nulls 1 two-nulls-lent (lit< tt) in
     let z : _≡_ {A = ℕ} 0 1 = cc in omega arith
 
--- a walker that repeats the first value
-pub repeats : (f : (bytes : List ℕ) → (place : ℕ) → Stepping) → Steps f → ((r : List ℕ) (i : ℕ) → f r i .answer ≡ f r 0 .answer) → ⊥
-repeats f k h =
-    let e : _≡_ {A = Step} (part 1 1) (part 0 1) = sym (ap (λ s. s .answer) (k two-nulls 1 ∙ second-step)) ∙ h two-nulls 1 ∙ ap (λ s. s .answer) (k two-nulls 0 ∙ first-step) in
+-- A walker that repeats the first value
+
+abbrev pub Repeats : Walker → Type 0
+Repeats f = (r : List ℕ) (i : ℕ) → Lent 8 r → f r i .answer ≡ f r 0 .answer
+
+repeater : (f : Walker) × Repeats f
+repeater = (λ r i. record { answer = part 0 1; at = 1 }, λ r i a. refl)
+
+pub repeats : (f : Walker) → Steps f → Repeats f → ⊥
+repeats f p h =
+    let e : _≡_ {A = Step} (part 1 1) (part 0 1) =
+        sym (ap (λ s. s .answer) (p two-nulls 1 two-nulls-lent ∙ second-step)) ∙ h two-nulls 1 two-nulls-lent ∙ ap (λ s. s .answer) (p two-nulls 0 two-nulls-lent ∙ first-step) in
     let z : _≡_ {A = ℕ} 1 0 = cc in omega arith

@@ -12,3 +12,4 @@ pub mod Readings
 pub mod Stepping
 pub mod Walks
 pub mod Unique
+pub mod ShutOut

@@ -3,13 +3,13 @@ use Prim.Native.Nat.{ℕ, _+_, _-_, _≤_, _<_}
 use mathlib.Core.Path.{_≡_, sym, ap, subst, _∙_}
 use mathlib.Core.List.{List, [], _∷_}
 use native.Mathlib.Omega.{arith}
-use lib.ListN.{length, take, drop, length-drop, drop-of-length-le}
-use lib.Seq.{drop-cons}
+use lib.ListN.{length, take, drop, length-drop}
 use denote.Ref.{RefT, now}
 use Rattle.standard.specs.Answer.{Answer, got, refuse, _>>=_}
 use Rattle.standard.specs.Tree.{Tree}
 use Rattle.standard.specs.Read.{front}
-use Rattle.standard.specs.Outcomes.{Extent, extent, measure, end, Stepping, stepped, stepIn, step, levelMost}
+use Rattle.standard.specs.Outcomes.{Extent, extent, measure, Stepping, stepped, stepIn, step, levelMost}
+use Rattle.laws.specs.Demand1.{step-on}
 use Rattle.laws.specs.Answers.{Holds, yes′, no′, out}
 use Rattle.reader.specs.InCode.{measuredIs, stepIs, steppedIs}
 use Rattle.reader.specs.Walking.{Inside, Part, stepOf, NextOf}
@@ -19,16 +19,6 @@ use Rattle.reader.specs.declared.measuring.Measured.the-variants.{Fits}
 use Rattle.reader.specs.declared.walker.Stepped.{Stepped}
 use Rattle.reader.specs.declared.walker.Walker.{Walker}
 use Rattle.reader.proofs.Rooms.{rest}
-
--- at the end of the bytes, or beyond it
-pub step-end : (l i : ℕ) (r : List ℕ) → length r ≤ i → step l r i ≡ record { answer = end; at = i }
-unfolding step stepIn
-step-end l i r h = rw (drop-of-length-le r {i = i} h)
-
--- where bytes are left
-pub step-on : (l i : ℕ) (r : List ℕ) → i < length r → step l r i ≡ stepped i (measure l (drop i r))
-unfolding step stepIn
-step-on l i r h = rw (drop-cons r i 0 h)
 
 short : (n : ℕ) (m : Answer (Tree × List ℕ)) → Holds (λ e. e .length ≤ n) (_>>=_ {B = Extent} m (λ x. got (extent (x .0) (n - length (x .1)))))
 short n (got (v, z)) = yes′ {a = extent v (n - length z)} (omega arith)

@@ -34,12 +34,15 @@ one-answer (Fits e) (Refused g) h = cc
 one-answer (Refused f) (Fits d) h = cc
 one-answer (Refused f) (Refused g) h = ap Refused (same-refusal f g (cc) (cc))
 
--- the promise of `measure` is this equation, and nothing else
+abbrev pub MeasurePromise : (bytes : List ℕ) → Measured → Type 0
+MeasurePromise b r = measuredIs r ≡ outcome.measure levelMost b
+
+-- the contract of `measure` is this promise, and nothing else
 pub measure-promise : {M : Type 1} (𝓤 : URA M) (H : Heap 𝓤) (κs : Lfts 1) (A : Atoms 𝓤) (mem : Memory → SProp 𝓤) (run : Routine → Fun 𝓤) (b : RefT (List ℕ)) (r : Measured)
-    → measure.ensures-1 𝓤 H κs A mem run b (record { entry = b; exit = b }) r ≡ fact 𝓤 (measuredIs r ≡ outcome.measure levelMost (now b))
+    → measure.ensures-1 𝓤 H κs A mem run b (record { entry = b; exit = b }) r ≡ fact 𝓤 (MeasurePromise (now b) r)
 measure-promise 𝓤 H κs A mem run b r = refl
 
-pub one-measured : (b : List ℕ) (r s : Measured) → measuredIs r ≡ outcome.measure levelMost b → measuredIs s ≡ outcome.measure levelMost b → r ≡ s
+pub one-measured : (b : List ℕ) (r s : Measured) → MeasurePromise b r → MeasurePromise b s → r ≡ s
 one-measured b r s a d = one-answer r s (a ∙ sym d)
 
 -- the outcome of `read`: the answer, and what words and text hold
@@ -48,13 +51,13 @@ pub record Outcome : Type 0 where
   pub words : List ℕ
   pub text : List ℕ
 
-abbrev pub Promise : (bytes words text : List ℕ) → Outcome → Type 0
-Promise b w x r = (measuredIs (r .answer) ≡ outcome.read levelMost b w x .answer) × (r .words ≡ outcome.read levelMost b w x .words) × (r .text ≡ outcome.read levelMost b w x .letters)
+abbrev pub ReadPromise : (bytes words text : List ℕ) → Outcome → Type 0
+ReadPromise b w x r = (measuredIs (r .answer) ≡ outcome.read levelMost b w x .answer) × (r .words ≡ outcome.read levelMost b w x .words) × (r .text ≡ outcome.read levelMost b w x .letters)
 
--- the promise of `read` is this, and nothing else
+-- the contract of `read` is this promise, and nothing else
 pub read-promise : {M : Type 1} (𝓤 : URA M) (H : Heap 𝓤) (κs : Lfts 3) (A : Atoms 𝓤) (mem : Memory → SProp 𝓤) (run : Routine → Fun 𝓤) (b w x v y : RefT (List ℕ)) (r : Measured)
-    → read.ensures-1 𝓤 H κs A mem run b w x (record { entry = b; exit = b }) (record { entry = w; exit = v }) (record { entry = x; exit = y }) r ≡ fact 𝓤 (Promise (now b) (now w) (now x) (record { answer = r; words = now v; text = now y }))
+    → read.ensures-1 𝓤 H κs A mem run b w x (record { entry = b; exit = b }) (record { entry = w; exit = v }) (record { entry = x; exit = y }) r ≡ fact 𝓤 (ReadPromise (now b) (now w) (now x) (record { answer = r; words = now v; text = now y }))
 read-promise 𝓤 H κs A mem run b w x v y r = refl
 
-pub one-read : (b w x : List ℕ) (r s : Outcome) → Promise b w x r → Promise b w x s → r ≡ s
+pub one-read : (b w x : List ℕ) (r s : Outcome) → ReadPromise b w x r → ReadPromise b w x s → r ≡ s
 one-read b w x r s a d i = record { answer = one-answer (r .answer) (s .answer) (a .0 ∙ sym (d .0)) i; words = (a .1 ∙ sym (d .1)) i; text = (a .2 ∙ sym (d .2)) i }

@@ -23,6 +23,7 @@ use Rattle.standard.specs.Grammar.{Formed}
 use Rattle.standard.specs.Outcomes as outcome
 use Rattle.standard.specs.Outcomes.{Extent, measure, end, part, refused, stepped, stepIn, levelMost}
 use Rattle.laws.specs.Written.{form-some}
+use Rattle.laws.specs.Demand1.{step-end, step-on}
 use Rattle.laws.specs.Demand3.{formed-measured}
 use Rattle.standard.specs.Facts.{same-refusal}
 use Rattle.reader.specs.InCode.{stepIs, steppedIs}
@@ -32,7 +33,6 @@ use Rattle.reader.specs.declared.walker.Step.the-variants.{Done, Value, 
 use Rattle.reader.specs.declared.walker.Stepped.{Stepped}
 use Rattle.reader.specs.declared.walker.Walker.{Walker}
 use Rattle.reader.specs.declared.walker.Next.{Next}
-use Rattle.reader.proofs.Stepping.{step-end, step-on}
 use Rattle.reader.proofs.walker.Step.Laws as E′
 use Rattle.reader.proofs.walker.Next.Laws as S′
 use Rattle.reader.proofs.walker.step_at as step-at
@@ -53,16 +53,19 @@ one-step (Refused f) Done h = cc
 one-step (Refused f) (Value j m) h = cc
 one-step (Refused f) (Refused g) h = ap Refused (same-refusal f g (cc) (cc))
 
--- the promise of `step_at` is this equation, and nothing else
+abbrev pub StepPromise : (bytes : List ℕ) → (place : ℕ) → Stepped → Type 0
+StepPromise b i r = steppedIs r ≡ outcome.step levelMost b i
+
+-- the contract of `step_at` is this promise, and nothing else
 pub step-promise : {M : Type 1} (𝓤 : URA M) (H : Heap 𝓤) (κs : Lfts 1) (A : Atoms 𝓤) (mem : Memory → SProp 𝓤) (run : Routine → Fun 𝓤) (b : RefT (List ℕ)) (i : ℕ) (r : Stepped)
-    → step-at.ensures-1 𝓤 H κs A mem run b i (record { entry = b; exit = b }) (record { entry = i; exit = i }) r ≡ fact 𝓤 (steppedIs r ≡ outcome.step levelMost (now b) i)
+    → step-at.ensures-1 𝓤 H κs A mem run b i (record { entry = b; exit = b }) (record { entry = i; exit = i }) r ≡ fact 𝓤 (StepPromise (now b) i r)
 step-promise 𝓤 H κs A mem run b i r = refl
 
 -- no second outcome satisfies the promise of `step_at`
-pub one-stepped : (bytes : List ℕ) (i : ℕ) (r s : Stepped) → steppedIs r ≡ outcome.step levelMost bytes i → steppedIs s ≡ outcome.step levelMost bytes i → r ≡ s
+pub one-stepped : (bytes : List ℕ) (i : ℕ) (r s : Stepped) → StepPromise bytes i r → StepPromise bytes i s → r ≡ s
 one-stepped bytes i r s a b j = record { answer = one-step (r .answer) (s .answer) (ap (λ (t : outcome.Stepping). t .answer) (a ∙ sym b)) j; at = (a ∙ sym b) j .at }
 
--- the promise of `new` is this equation, and nothing else; no second walker satisfies it
+-- the contract of `new` is this equation, and nothing else; no second walker satisfies it
 pub new-promise : {M : Type 1} (𝓤 : URA M) (H : Heap 𝓤) (κs : Lfts 1) (A : Atoms 𝓤) (mem : Memory → SProp 𝓤) (run : Routine → Fun 𝓤) (p : RefT (List ℕ)) (w : Walker)
     → new.ensures-1 𝓤 H κs A mem run p (record { entry = p; exit = p }) w ≡ fact 𝓤 (w ≡ record { bytes = p; at = 0 })
 new-promise 𝓤 H κs A mem run p w = refl
@@ -70,7 +73,7 @@ new-promise 𝓤 H κs A mem run p w = refl
 pub one-new : (p : RefT (List ℕ)) (w x : Walker) → w ≡ record { bytes = p; at = 0 } → x ≡ record { bytes = p; at = 0 } → w ≡ x
 one-new p w x a b = a ∙ sym b
 
--- the promise of `next` is `NextOf`, and nothing else
+-- the contract of `next` is `NextOf`, and nothing else
 pub next-promise : {M : Type 1} (𝓤 : URA M) (H : Heap 𝓤) (κs : Lfts 2) (A : Atoms 𝓤) (mem : Memory → SProp 𝓤) (run : Routine → Fun 𝓤) (w x : RefT Walker) (r : Next)
     → next.ensures-1 𝓤 H κs A mem run w (record { entry = w; exit = x }) r ≡ fact 𝓤 (NextOf (now w) (now x) r)
 next-promise 𝓤 H κs A mem run w x r = refl

@@ -14,3 +14,4 @@ pub mod Whole
 pub mod Onward
 pub mod Writes
 pub mod Unique
+pub mod ShutOut

@@ -27,12 +27,15 @@ one-answer (Length n) (Refused g) h = cc
 one-answer (Refused f) (Length m) h = cc
 one-answer (Refused f) (Refused g) h = ap Refused (same-refusal f g (cc) (cc))
 
--- the promise of `size` is this equation, and nothing else
+abbrev pub SizePromise : (words text : List ℕ) → Written → Type 0
+SizePromise w x r = writtenIs r ≡ outcome.size levelMost w x
+
+-- the contract of `size` is this promise, and nothing else
 pub size-promise : {M : Type 1} (𝓤 : URA M) (H : Heap 𝓤) (κs : Lfts 2) (A : Atoms 𝓤) (mem : Memory → SProp 𝓤) (run : Routine → Fun 𝓤) (w x : RefT (List ℕ)) (r : Written)
-    → size.ensures-1 𝓤 H κs A mem run w x (record { entry = w; exit = w }) (record { entry = x; exit = x }) r ≡ fact 𝓤 (writtenIs r ≡ outcome.size levelMost (now w) (now x))
+    → size.ensures-1 𝓤 H κs A mem run w x (record { entry = w; exit = w }) (record { entry = x; exit = x }) r ≡ fact 𝓤 (SizePromise (now w) (now x) r)
 size-promise 𝓤 H κs A mem run w x r = refl
 
-pub one-size : (w x : List ℕ) (r s : Written) → writtenIs r ≡ outcome.size levelMost w x → writtenIs s ≡ outcome.size levelMost w x → r ≡ s
+pub one-size : (w x : List ℕ) (r s : Written) → SizePromise w x r → SizePromise w x s → r ≡ s
 one-size w x r s a b = one-answer r s (a ∙ sym b)
 
 -- the outcome of `write`: the answer, and what the output holds
@@ -40,13 +43,13 @@ pub record Outcome : Type 0 where
   pub answer : Written
   pub out : List ℕ
 
-abbrev pub Promise : (words text out : List ℕ) → Outcome → Type 0
-Promise w x o r = (writtenIs (r .answer) ≡ outcome.write levelMost w x o .answer) × (r .out ≡ outcome.write levelMost w x o .out)
+abbrev pub WritePromise : (words text out : List ℕ) → Outcome → Type 0
+WritePromise w x o r = (writtenIs (r .answer) ≡ outcome.write levelMost w x o .answer) × (r .out ≡ outcome.write levelMost w x o .out)
 
--- the promise of `write` is this, and nothing else
+-- the contract of `write` is this promise, and nothing else
 pub write-promise : {M : Type 1} (𝓤 : URA M) (H : Heap 𝓤) (κs : Lfts 3) (A : Atoms 𝓤) (mem : Memory → SProp 𝓤) (run : Routine → Fun 𝓤) (w x o p : RefT (List ℕ)) (r : Written)
-    → write.ensures-1 𝓤 H κs A mem run w x o (record { entry = w; exit = w }) (record { entry = x; exit = x }) (record { entry = o; exit = p }) r ≡ fact 𝓤 (Promise (now w) (now x) (now o) (record { answer = r; out = now p }))
+    → write.ensures-1 𝓤 H κs A mem run w x o (record { entry = w; exit = w }) (record { entry = x; exit = x }) (record { entry = o; exit = p }) r ≡ fact 𝓤 (WritePromise (now w) (now x) (now o) (record { answer = r; out = now p }))
 write-promise 𝓤 H κs A mem run w x o p r = refl
 
-pub one-write : (w x o : List ℕ) (r s : Outcome) → Promise w x o r → Promise w x o s → r ≡ s
+pub one-write : (w x o : List ℕ) (r s : Outcome) → WritePromise w x o r → WritePromise w x o s → r ≡ s
 one-write w x o r s a b i = record { answer = one-answer (r .answer) (s .answer) (a .0 ∙ sym (b .0)) i; out = (a .1 ∙ sym (b .1)) i }

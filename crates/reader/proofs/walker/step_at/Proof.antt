@@ -4,7 +4,8 @@ use native.Mathlib.Omega.{arith}
 use borrow.Author.Needs.{needs}
 use Rattle.standard.specs.Outcomes.{levelMost, stepped}
 use Rattle.reader.specs.InCode.{steppedIs}
-use Rattle.reader.proofs.Stepping.{step-end, steps, ends-within}
+use Rattle.laws.specs.Demand1.{step-end}
+use Rattle.reader.proofs.Stepping.{steps, ends-within}
 use Rattle.reader.proofs.walker.step_at.Statement.{statement}
 use Rattle.reader.proofs.walker.step_at.Tie as tie
 
