@@ -90,3 +90,11 @@ fits (suc l) c v a f = shape-small (fits l) f c
 
 pub small : (l : ℕ) (v : Tree) (a : List ℕ) → Formed l v a → Small v a
 small l v a f = coded-small (fits l) v a (f .form)
+
+tall-some : (v : Tree) → 0 < tall v
+unfolding tall
+tall-some (node k n t vs) = omega arith
+
+-- what stands behind the code of an element is never empty
+pub element-some : (l c : ℕ) (v : Tree) (a : List ℕ) → Payload l c v a → T (element (layoutOf c)) → 0 < length a
+element-some l c v a h t = let s = fits l c v a h .1 t in omega (arith, tall-some v, s .height)

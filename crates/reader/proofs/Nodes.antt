@@ -8,6 +8,7 @@ use native.Mathlib.Omega.{arith}
 use native.Mathlib.Nat.{zero-add, sub-zero}
 use native.Mathlib.Numerals.{add-one}
 use borrow.Author.Tests.{eq-eqb, ne-eqb}
+use lib.Dec.{T}
 use lib.ListN.{length, drop, getD}
 use Rattle.standard.specs.Choose.{if}
 use Rattle.standard.specs.Answer.{Answer, got, refuse, at, _>>=_, _>>_, tooDeep, elementUnfit, inputShort, codeUnknown, sizeAmiss}
@@ -171,6 +172,9 @@ fit-of y h = go (isCode y) (element y) h
 pub items-no : (l w q n e x : ℕ) (r : List ℕ) → elementOf (layoutOf e) ≡ Unfit x → refused x q ≡ contents w (items (below l) q n e r)
 unfolding items contents
 items-no l w q n e x r h = ⊎-elim (λ u. rw (u .0, u .1)) (λ u. rw (u .0, u .1, u .2)) (unfit-of (layoutOf e) x h)
+
+pub fit-element : (y : Layout) → elementOf y ≡ Fit → T (element y)
+fit-element y h = rw (fit-of y h .1) tt
 
 pub items-is : (l w q n e : ℕ) (r : List ℕ) (m : Measured) → elementOf (layoutOf e) ≡ Fit → m ≡ several (length r) 0 0 (many (reads (Under e) l) n q r) → closed (length r) w q m ≡ contents w (items (below l) q n e r)
 unfolding reads items contents

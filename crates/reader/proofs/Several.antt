@@ -5,16 +5,22 @@ use mathlib.Core.List.{List, [], _∷_, _++_}
 use mathlib.Core.Bool.{true, false}
 use native.Mathlib.Omega.{arith}
 use native.Mathlib.Nat.{add-zero, add-assoc}
+use lib.Dec.{T}
 use lib.ListN.{length, drop, length-append, length-drop}
 use lib.Seq.{drop-at, drop-drop}
 use Rattle.standard.specs.Answer.{Answer, got, refuse, at, _>>=_, tooDeep, inputShort}
 use Rattle.standard.specs.Tree.{Tree, Trees, none, more, tall, tall*, text, text*}
+use Rattle.standard.specs.Choose.{lookup}
+use Rattle.standard.specs.Bytes.{spell}
+use Rattle.standard.specs.Codes.{codes, entryOf, isCode, layoutOf, element}
+use Rattle.standard.specs.Kinds.{fair, flaw}
 use Rattle.standard.specs.Grammar.{coded′}
-use Rattle.standard.specs.Read.{many, coded, payload}
+use Rattle.standard.specs.Read as read
+use Rattle.standard.specs.Read.{cut, plain, leaf, many, coded, payload}
 use Rattle.laws.specs.Answers.{Holds, yes′, no′, on, weaken, out}
-use Rattle.laws.specs.Bounds.{small}
+use Rattle.laws.specs.Bounds.{small, element-some}
 use Rattle.laws.specs.Sound.{payload-sound}
-use Rattle.reader.specs.Measuring.{fits, refused, measured, several, tallyIs, reads, reach, codeAt, Roomy, Plain}
+use Rattle.reader.specs.Measuring.{fits, refused, measured, several, tallyIs, reads, reach, codeAt, Taking, Roomy, Plain}
 use Rattle.reader.specs.declared.measuring.Extent.{Extent}
 use Rattle.standard.specs.declared.refusal.Refusal.{Refusal}
 use Rattle.reader.specs.declared.measuring.Measured.{Measured}
@@ -44,6 +50,10 @@ payload-cut l c p r = weaken (payload-sound l c p r) (λ x h.
       letters = omega (arith, s .letters);
     })
 
+-- behind the code of an element a byte is taken
+payload-some : (l c p : ℕ) (r : List ℕ) → Holds (λ x. T (element (layoutOf c)) → length (x .1) < length r) (payload l c p r)
+payload-some l c p r = weaken (payload-sound l c p r) (λ x h t. omega (arith, element-some l c (x .0) (h .front) (h .holds) t, ap length (h .split), length-append (h .front) (x .1)))
+
 cons-cut : (c : ℕ) (r : List ℕ) (v : Tree) (z : List ℕ) → Cut r v z → Cut (c ∷ r) v z
 cons-cut c r v z h =
     let e : suc (length r) - length z ≡ suc (length r - length z) = omega (arith, h .room) in
@@ -55,6 +65,42 @@ reads-cut (Under e) l p r = payload-cut l e p r
 reads-cut Own zero p r = no′
 reads-cut Own (suc l) p [] = no′
 reads-cut Own (suc l) p (c ∷ r) = weaken (payload-cut (suc l) c p r) (λ x i. cons-cut c r (x .0) (x .1) i)
+
+reads-some : (h : Head) → Taking h → (l p : ℕ) (r : List ℕ) → Holds (λ x. length (x .1) < length r) (reads h l p r)
+unfolding reads coded
+reads-some (Under e) t l p r = weaken (payload-some l e p r) (λ x i. i t)
+reads-some Own t zero p r = no′
+reads-some Own t (suc l) p [] = no′
+reads-some Own t (suc l) p (c ∷ r) = weaken (payload-cut (suc l) c p r) (λ x i. omega (arith, i .room))
+
+-- A count is not believed: of so many values no more are asked for than there are bytes, and one that is not there
+
+abbrev behind : Answer (Tree × List ℕ) → (List ℕ → ℕ) → ℕ
+behind (got (v, s)) k = k s
+behind (refuse x q) k = 0
+
+-- how many values are asked for, where f reads each, until one is refused
+pub turns : (ℕ → List ℕ → Answer (Tree × List ℕ)) → (count place : ℕ) → List ℕ → ℕ
+turns f zero p r = 0
+turns f (suc n) p r = suc (behind (f p r) (λ s. turns f n (p + (length r - length s)) s))
+
+few : (f : ℕ → List ℕ → Answer (Tree × List ℕ)) → ((p : ℕ) (r : List ℕ) → Holds (λ x. length (x .1) < length r) (f p r)) → (n p : ℕ) (r : List ℕ) → turns f n p r ≤ suc (length r)
+unfolding turns
+few f g zero p r = omega arith
+few f g (suc n) p r = by (f p r) (g p r) (λ s. few f g n (p + (length r - length s)) s)
+  where
+    by : (m : Answer (Tree × List ℕ)) → Holds (λ x. length (x .1) < length r) m → ((s : List ℕ) → turns f n (p + (length r - length s)) s ≤ suc (length s))
+        → suc (behind m (λ s. turns f n (p + (length r - length s)) s)) ≤ suc (length r)
+    by (got (v, s)) (yes′ i) h = omega (arith, h s)
+    by (refuse x q) i h = omega arith
+
+pub few-turns : (h : Head) → Taking h → (l n p : ℕ) (r : List ℕ) → turns (reads h l) n p r ≤ suc (length r)
+few-turns h t l = few (reads h l) (reads-some h t l)
+
+-- a count of four thousand million over two nulls: both are taken, and the third is refused
+three-turns : turns (reads Own 1) 4000000000 0 (0x40 ∷ 0x40 ∷ []) ≡ 3
+unfolding turns reads coded payload read.behind leaf plain cut codes entryOf isCode lookup spell fair flaw
+three-turns = refl
 
 -- what is left of a room after n values, and their rows
 many-cut : (f : ℕ → List ℕ → Answer (Tree × List ℕ)) → ((p : ℕ) (r : List ℕ) → Holds (λ x. Cut r (x .0) (x .1)) (f p r)) → (n p : ℕ) (r : List ℕ)
@@ -131,6 +177,18 @@ opened Own (suc l) a (e ∷ r) c b h =
     let j : a + 1 ≡ b = cc in
     record { skip = 1; begins = omega arith; reaches = omega arith; room = omega arith; levels = omega arith; same = λ p. rw i }
 
+-- behind its own code a value begins a byte further; behind a given one its payload has a byte
+by-head : (h : Head) (l a : ℕ) (r : List ℕ) (c b : ℕ) → codeAt h l a r ≡ Behind c b → Taking h → (n : ℕ) → (T (element (layoutOf c)) → 0 < n) → a < b + n
+unfolding codeAt
+by-head Own zero a r c b e t n f = let z : _≡_ {A = ℕ} 0 1 = cc in absurd (omega arith)
+by-head Own (suc l) a [] c b e t n f = let z : _≡_ {A = ℕ} 0 1 = cc in absurd (omega arith)
+by-head Own (suc l) a (d ∷ r) c b e t n f = let j : a + 1 ≡ b = cc in omega arith
+by-head (Under d) zero a r c b e t n f = let z : _≡_ {A = ℕ} 0 1 = cc in absurd (omega arith)
+by-head (Under d) (suc l) a r c b e t n f =
+    let i : d ≡ c = cc in
+    let j : a ≡ b = cc in
+    omega (arith, f (rw i at t))
+
 opened-same : (h : Head) (l a c b p : ℕ) (s : List ℕ) → Opened h l a (drop a s) c b → reads h l p (drop a s) ≡ payload l c p (drop b s)
 opened-same h l a c b p s o = o .same p ∙ ap (λ (t : List ℕ). payload l c p t) (drop-drop (o .skip) a s ∙ ap (λ (n : ℕ). drop n s) (sym (o .begins)))
 
@@ -168,13 +226,14 @@ many-no f k i j (suc n) q x p r h e = rw e
 
 -- The loop stands at a, behind i rows and j bytes of text, with so many values left: what is left from here comes to what was due at the start
 pub record Going (s : List ℕ) (h : Head) (l count p a i j left : ℕ) : Type 0 where
+  pub taking : Taking h
   pub inside : a ≤ length s
   pub height : i + left ≤ a + count
   pub letters : j + left ≤ a + count
   pub sum : several (length s) i j (many (reads h l) left (p + a) (drop a s)) ≡ several (length s) 0 0 (many (reads h l) count p s)
 
-pub begin : (s : List ℕ) (h : Head) (l count p : ℕ) → Going s h l count p 0 0 0 count
-begin s h l count p = record { inside = omega arith; height = omega arith; letters = omega arith; sum = rw (add-zero p) }
+pub begin : (s : List ℕ) (h : Head) (l count p : ℕ) → Taking h → Going s h l count p 0 0 0 count
+begin s h l count p t = record { taking = t; inside = omega arith; height = omega arith; letters = omega arith; sum = rw (add-zero p) }
 
 module _ (s : List ℕ) (h : Head) (l count p a i j left : ℕ) (g : Going s h l count p a i j left) where
   pub end : left ≤ 0 → fits a i j ≡ several (length s) 0 0 (many (reads h l) count p s)
@@ -198,24 +257,27 @@ module _ (s : List ℕ) (h : Head) (l count p a i j left : ℕ) (g : Going s h l
     pub fails : (f : Refusal) → m ≡ Refused f → Refused f ≡ several (length s) 0 0 (many (reads h l) count p s)
     fails f k = sym (many-no (reads h l) (length s) i j left (p + a) (f .number) (f .place) (drop a s) n (same ∙ refused-of (length (drop b s)) (payload l c (p + a) (drop b s)) f (sym d ∙ k))) ∙ g .sum
 
-    pub again : (x : Extent) → m ≡ Fits x → Going s h l count p (b + x .length) (i + x .rows) (j + x .text) (left - 1)
+    -- the turn goes on behind the value, and takes at least a byte
+    pub again : (x : Extent) → m ≡ Fits x → Going s h l count p (b + x .length) (i + x .rows) (j + x .text) (left - 1) × (a < b + x .length)
     again x k = go (read-of (length (drop b s)) (payload l c (p + a) (drop b s)) x (sym d ∙ k)) (opened h l a (drop a s) c b e)
       where
-        go : Read (length (drop b s)) (payload l c (p + a) (drop b s)) x → Opened h l a (drop a s) c b → Going s h l count p (b + x .length) (i + x .rows) (j + x .text) (left - 1)
+        go : Read (length (drop b s)) (payload l c (p + a) (drop b s)) x → Opened h l a (drop a s) c b → Going s h l count p (b + x .length) (i + x .rows) (j + x .text) (left - 1) × (a < b + x .length)
         go q o =
             let u = out (rw (q .isRead) at (payload-cut l c (p + a) (drop b s))) in
             let v = length-drop b s in
             let w : (p + a) + (length (drop a s) - length (q .rest)) ≡ p + (b + x .length) = omega (arith, u .room, q .bytes, begun, length-drop a s, g .inside) in
             let y : q .rest ≡ drop (b + x .length) s = u .left ∙ rw (← q .bytes, drop-drop (x .length) b s) in
-            record {
+            let some = out (rw (q .isRead) at (payload-some l c (p + a) (drop b s))) in
+            (record {
+              taking = g .taking;
               inside = omega (arith, u .room, q .bytes, begun);
               height = omega (arith, u .rows, q .bytes, q .rows, o .begins, g .height);
               letters = omega (arith, u .letters, q .bytes, q .letters, o .begins, g .letters);
               sum = rw (q .rows, q .letters, ← w, ← y) (sym (many-got (reads h l) (length s) i j left (p + a) (drop a s) (q .tree) (q .rest) n (same ∙ q .isRead)) ∙ g .sum);
-            }
+            }, by-head h l a (drop a s) c b e (g .taking) (x .length) (λ t. omega (arith, some t, q .bytes)))
 
   -- a scalar that needs no look
-  pub plainly : 0 < left → (c b : ℕ) → codeAt h l a (drop a s) ≡ Behind c b → (w : ℕ) → Plain c w → w ≤ length s - b → Going s h l count p (b + w) (i + 1) j (left - 1)
+  pub plainly : 0 < left → (c b : ℕ) → codeAt h l a (drop a s) ≡ Behind c b → (w : ℕ) → Plain c w → w ≤ length s - b → Going s h l count p (b + w) (i + 1) j (left - 1) × (a < b + w)
   plainly n c b e w f k =
       let o = opened-room h l a c b s (g .inside) e in
       let q : fits w 1 0 ≡ measured (length (drop b s)) (payload l c (p + a) (drop b s)) = sym (f l (p + a) (drop b s) (o .2) (rw length-drop k)) in

@@ -2,11 +2,11 @@
 use Prim.Native.Nat.{ℕ, zero, suc, _+_, _-_, _^_, _≤_, _<_}
 use mathlib.Core.Path.{_≡_}
 use mathlib.Core.List.{List, [], _∷_}
-use lib.Dec.{eqb, leb}
+use lib.Dec.{T, eqb, leb}
 use lib.ListN.{length}
 use Rattle.standard.specs.Answer.{Answer, got, refuse, at, tooDeep, elementUnfit, inputShort, codeUnknown, sizeAmiss, rowsShort, textShort}
 use Rattle.standard.specs.Choose.{if}
-use Rattle.standard.specs.Codes.{whole, Layout, isCode, element}
+use Rattle.standard.specs.Codes.{whole, Layout, layoutOf, isCode, element}
 use Rattle.standard.specs.Tree.{Tree, Trees, tall, tall*, text, text*}
 use Rattle.standard.specs.Read.{coded, payload}
 use Rattle.reader.specs.declared.measuring.Measured.{Measured}
@@ -83,6 +83,11 @@ reads (Under e) l = below l e
 abbrev pub reach : Head → ℕ
 reach Own = 0
 reach (Under e) = 1
+
+-- a value takes at least a byte: it has its own code, or its code may stand for elements, whose payloads are never empty
+abbrev pub Taking : Head → Type 0
+Taking Own = Unit {0}
+Taking (Under e) = T (element (layoutOf e))
 
 -- the code of a value whose room begins at a, and where its payload begins
 unfoldable pub codeAt : Head → (levels a : ℕ) → List ℕ → Start

@@ -17,7 +17,7 @@ ghost use Rattle.standard.specs.Outcomes as outcome;
 ghost use Rattle.standard.specs.Outcomes.{levelMost};
 ghost use Rattle.reader.specs.Entries.{narrow, sure, plainBelow, plainWidth, compoundWidth, compoundKind};
 ghost use Rattle.reader.specs.InCode.{measuredIs, bodyIs};
-ghost use Rattle.reader.specs.Measuring.{refused, block, measured, several, contents, above, closed, heldAt, below, reads, reach, codeAt, elementOf, tallyIs, Roomy, Within, Plain};
+ghost use Rattle.reader.specs.Measuring.{refused, block, measured, several, contents, above, closed, heldAt, below, reads, reach, codeAt, elementOf, tallyIs, Taking, Roomy, Within, Plain};
 use crate::number::narrow_at;
 use standard::format_code;
 use standard::format_code::Layout;
@@ -360,8 +360,9 @@ fn told(m: Measured) -> Tally
 
 // So many values, one after another, where so many levels are left.
 // No count is believed: each turn refuses or takes a byte, for a value has its code, and the payload of an element is never empty.
+// What is left of the bytes is the loop's measure.
 fn many(s: &[u8], head: Head, count: usize, place: usize, levels: usize) -> Measured
-    requires { ⌜ (place + reach head + length (now s) < 2 ^ 63) × (count < 2 ^ 32) ⌝ }
+    requires { ⌜ (place + reach head + length (now s) < 2 ^ 63) × (count < 2 ^ 32) × Taking head ⌝ }
     ensures { λ r. ⌜ r ≡ several (length (now (s .entry))) 0 0 (read.many (reads head levels) count place (now (s .entry))) ⌝ }
 {
     let mut at: usize = 0;

@@ -24,7 +24,7 @@ use Rattle.reader.proofs.Entries.{entry-layout, entry-sure, compound-so
 use Rattle.reader.proofs.Scalars.{constant-is, small-is, raw-is}
 use Rattle.reader.proofs.Rooms.{rest, part-length}
 use Rattle.reader.proofs.Several.{tally-fits, tally-refused, plainly, run-roomy, opened-room, Going, begin, end, stops, fails, again}
-use Rattle.reader.proofs.Nodes.{behind-of, compound-of, unknown-is, scalar-is, described-is, Framed, framed, unframed, compound-odd, compound-is, array-is, inside-deep, inside-none, inside-empty, inside-some, items-no, items-is}
+use Rattle.reader.proofs.Nodes.{behind-of, compound-of, unknown-is, scalar-is, described-is, Framed, framed, unframed, compound-odd, compound-is, array-is, inside-deep, inside-none, inside-empty, inside-some, items-no, fit-element, items-is}
 use Rattle.reader.proofs.measuring.array.Reads as array
 use Rattle.reader.proofs.measuring.array.Kinds as array-kinds
 use Rattle.reader.proofs.measuring.+array+behind+compound+inside+items+many+payload.Lts-array as array-lts
@@ -173,7 +173,7 @@ abbrev many-Inv-loop : many-lts.InvT-loop
 many-Inv-loop s head count place levels at₀ rows₀ text₀ left₀ at rows text left = Going s head levels count place at rows text left
 
 abbrev many-μ-loop : many-lts.MeasureT-loop
-many-μ-loop s head count place levels at₀ rows₀ text₀ left₀ at rows text left = left
+many-μ-loop s head count place levels at₀ rows₀ text₀ left₀ at rows text left = length s - at
 
 -- the code of the next value, and where what stands behind it begins
 coded : (t : ℕ) (c : many-lts.After-known-told2 (many-claims t) (many-at t) many.Post many-Inv-loop many-μ-loop) →
@@ -184,6 +184,7 @@ coded t c = opened-room (c .before .before .before .before .before .before .befo
 passed : (t : ℕ) (c : many-lts.Then2 (many-claims t) (many-at t) many.Post many-Inv-loop many-μ-loop) →
     let a = c .before .before .before .before .before .before .before .before .before .before .before .args in let o = c .before .before .before .before .before .before .before .before .before .loop in
     Going (a .s .now) (a .head) (a .levels) (a .count) (a .place) (c .before .before .before .before .before .code .given .0 .1 .0 + c .before .before .before .plain-width .result) (o .rows + 1) (o .text) (o .left - 1)
+    × (o .at < c .before .before .before .before .before .code .given .0 .1 .0 + c .before .before .before .plain-width .result)
 passed t c =
     let a = c .before .before .before .before .before .before .before .before .before .before .before .args in
     let o = c .before .before .before .before .before .before .before .before .before .loop in
@@ -194,6 +195,7 @@ passed t c =
 stepped : (t : ℕ) (c : many-lts.Else3 (many-claims t) (many-at t) many.Post many-Inv-loop many-μ-loop) →
     let a = c .before .before .before .before .before .before .before .before .before .before .before .before .before .before .args in let o = c .before .before .before .before .before .before .before .before .before .before .before .before .loop in let e = c .before .before .payload .result in
     Going (a .s .now) (a .head) (a .levels) (a .count) (a .place) (c .before .before .before .before .before .before .before .before .code .given .0 .1 .0 + e .length) (o .rows + e .rows) (o .text + e .text) (o .left - 1)
+    × (o .at < c .before .before .before .before .before .before .before .before .code .given .0 .1 .0 + e .length)
 stepped t c = again _ _ _ _ _ _ _ _ _ (c .before .before .before .before .before .before .before .before .before .before .before .before .loop .inv) (c .before .before .before .before .before .before .before .before .before .before .before .loop-test .taken) _ _ (sym (c .before .before .before .before .before .before .before .before .before .before .code-at .ensures) ∙ c .before .before .before .before .before .before .before .before .code .given .1) _ (rw rest at (c .before .before .payload .ensures)) _ (tally-fits (c .before .before .payload .result) (not-false _ (c .if3 .left)))
 
 -- The body behind the fields of a compound and of an array
@@ -331,7 +333,7 @@ unfolding sure
     (λ c. search needs)
     (λ c κs. search needs)
     (λ c. search needs)
-    (λ c κs. omega arith)
+    (λ c κs. (omega arith, (omega arith, omega arith, fit-element _ (sym (c .before .before .element-of .ensures) ∙ c .enum-told .given .1))))
     (λ c κs. let a = c .before .before .before .before .before .args in run-roomy (Under (a .code)) (a .levels) (a .count) (a .place) (a .s .now) _ (c .many .ensures) (c .before .before .before .before .before .pre .1 .1) (omega arith))
     (λ c. let a = c .before .before .before .before .before .before .args in c .refuse .ensures ∙ items-no (a .levels) (a .whole) (a .place) (a .count) (a .code) _ (a .s .now) (sym (c .before .before .before .before .element-of .ensures) ∙ c .before .before .number .given .1))
     (λ c. let a = c .before .before .before .before .before .before .args in c .done .ensures ∙ items-is (a .levels) (a .whole) (a .place) (a .count) (a .code) (a .s .now) _ (sym (c .before .before .before .before .element-of .ensures) ∙ c .before .before .enum-told .given .1) (c .before .many .ensures)))
@@ -341,7 +343,7 @@ unfolding sure
     many.Post
     many-Inv-loop
     many-μ-loop
-    (λ c. begin _ _ _ _ _)
+    (λ c. begin _ _ _ _ _ (c .before .pre .1 .2))
     (λ c. omega (arith, c .loop-test .taken))
     (λ c κs. c .before .loop .inv .inside)
     (λ c. search needs)
@@ -352,9 +354,9 @@ unfolding sure
     (λ c κs. search needs)
     (λ c. omega (arith, coded t (c .before) .0, c .plain-width .ensures .1))
     (λ c κs. search needs)
-    (λ c. omega (arith, passed t c .inside, passed t c .height))
-    (λ c. omega (arith, c .before .before .before .before .before .before .before .before .loop-test .taken))
-    (λ c. passed t c)
+    (λ c. omega (arith, passed t c .0 .inside, passed t c .0 .height))
+    (λ c. omega (arith, passed t c .1, passed t c .0 .inside))
+    (λ c. passed t c .0)
     (λ c. omega (arith, coded t (c .before .before .before) .0))
     (λ c. omega (arith, coded t (c .before .before .before) .0))
     (λ c. omega (arith, coded t (c .before .before .before) .0))
@@ -362,11 +364,11 @@ unfolding sure
     (λ c κs. let s = c .before .before .before .before .before .before .before .before .before .before .before .args .s .now in omega (arith, coded t (c .before .before .before .before), part-length (c .before .before .before .before .before .code .given .0 .1 .0) (length s) s (coded t (c .before .before .before .before) .0) (omega arith)))
     (λ c κs. search needs)
     (λ c. let a = c .before .before .before .before .before .before .before .before .before .before .before .before .before .before .before .args in let o = c .before .before .before .before .before .before .before .before .before .before .before .before .before .loop in let e = c .before .before .before .payload .result in c .refuse2 .ensures ∙ fails (a .s .now) (a .head) (a .levels) (a .count) (a .place) (o .at) (o .rows) (o .text) (o .left) (o .inv) (c .before .before .before .before .before .before .before .before .before .before .before .before .loop-test .taken) _ _ (sym (c .before .before .before .before .before .before .before .before .before .before .before .code-at .ensures) ∙ c .before .before .before .before .before .before .before .before .before .code .given .1) _ (rw rest at (c .before .before .before .payload .ensures)) _ (tally-refused e (not-true _ (c .before .if3 .taken))))
-    (λ c. omega (arith, stepped t (c .before) .inside))
-    (λ c. omega (arith, stepped t (c .before .before) .inside, stepped t (c .before .before) .height, c .before .before .before .before .before .before .before .before .before .before .before .before .before .before .before .before .pre .1))
-    (λ c. omega (arith, stepped t (c .before .before .before) .inside, stepped t (c .before .before .before) .letters, c .before .before .before .before .before .before .before .before .before .before .before .before .before .before .before .before .before .pre .1))
-    (λ c. omega (arith, c .before .before .before .before .before .before .before .before .before .before .before .before .before .before .loop-test .taken))
-    (λ c. stepped t (c .before .before .before))
+    (λ c. omega (arith, stepped t (c .before) .0 .inside))
+    (λ c. omega (arith, stepped t (c .before .before) .0 .inside, stepped t (c .before .before) .0 .height, c .before .before .before .before .before .before .before .before .before .before .before .before .before .before .before .before .pre .1))
+    (λ c. omega (arith, stepped t (c .before .before .before) .0 .inside, stepped t (c .before .before .before) .0 .letters, c .before .before .before .before .before .before .before .before .before .before .before .before .before .before .before .before .before .pre .1))
+    (λ c. omega (arith, stepped t (c .before .before .before) .1, stepped t (c .before .before .before) .0 .inside))
+    (λ c. stepped t (c .before .before .before) .0)
     (λ c. end _ _ _ _ _ _ _ _ _ (c .before .loop .inv) (c .loop-test .left)))
     λ t. payload-lts.spec
     (payload-claims t)
