@@ -1,0 +1,4 @@
+-- The three demands, of the code.
+pub mod Demand1
+pub mod Demand2
+pub mod Demand3
