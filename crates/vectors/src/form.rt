@@ -9,22 +9,22 @@ ghost use Rattle.vectors.specs.Form.{digitOf, Ahead};
 const NOWHERE: usize = usize::MAX;
 
 // A number, and the place behind it.
-pub struct Found {
-    pub value: u64,
-    pub at: usize,
+pub(crate) struct Found {
+    pub(crate) value: u64,
+    pub(crate) at: usize,
 }
 
 // How many items of a buffer were filled, and the place behind them.
-pub struct Filled {
-    pub count: usize,
-    pub at: usize,
+pub(crate) struct Filled {
+    pub(crate) count: usize,
+    pub(crate) at: usize,
 }
 
 // A refusal, or number 0 for success, and the place behind it.
-pub struct Answer {
-    pub number: u64,
-    pub place: u64,
-    pub at: usize,
+pub(crate) struct Answer {
+    pub(crate) number: u64,
+    pub(crate) place: u64,
+    pub(crate) at: usize,
 }
 
 // The value of a digit, and 16 for any other byte.
@@ -56,7 +56,7 @@ fn nothing() -> Found
 }
 
 // The place behind that byte.
-pub fn after(line: &[u8], at: usize, b: u8) -> usize
+pub(crate) fn after(line: &[u8], at: usize, b: u8) -> usize
     ensures { λ r. ⌜ Ahead (now (line .entry)) at r ⌝ }
 {
     if line.len() <= at {
@@ -165,7 +165,7 @@ fn put_bytes(out: &mut [u8], from: usize, byte: u8, times: usize)
 }
 
 // A field of bytes, to the front of `out`.
-pub fn bytes(line: &[u8], at: usize, out: &mut [u8]) -> Filled
+pub(crate) fn bytes(line: &[u8], at: usize, out: &mut [u8]) -> Filled
     ensures { λ r. ⌜ Counts (r .count) (now (out .exit)) ⌝ }
 {
     let mut n: usize = 0;
@@ -220,7 +220,7 @@ fn rows(line: &[u8], at: usize, out: &mut [u64]) -> Filled
 }
 
 // A field of words, to the front of `out`: rows, and at the end perhaps a lone word behind a `+`.
-pub fn words(line: &[u8], at: usize, out: &mut [u64]) -> Filled
+pub(crate) fn words(line: &[u8], at: usize, out: &mut [u64]) -> Filled
     ensures { λ r. ⌜ Counts (r .count) (now (out .exit)) ⌝ }
 {
     let all = rows(line, at, out);
@@ -247,7 +247,7 @@ pub fn words(line: &[u8], at: usize, out: &mut [u64]) -> Filled
 }
 
 // An answer: `!NUMBER@PLACE` for a refusal; for success the `=` before what follows.
-pub fn answer_at(line: &[u8], at: usize) -> Answer {
+pub(crate) fn answer_at(line: &[u8], at: usize) -> Answer {
     let mark = after(line, at, b'!');
     if mark == NOWHERE {
         return Answer {

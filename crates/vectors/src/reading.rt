@@ -177,7 +177,7 @@ fn right_read(line: &[u8], at: usize, bytes: &[u8]) -> u64
 }
 
 // `BYTES ROOM ROOM ANSWER`, with `LENGTH WORDS TEXT` behind a success.
-pub fn read_case(line: &[u8]) -> u64
+pub(crate) fn read_case(line: &[u8]) -> u64
     ensures { λ r. ⌜ r ≤ 2 ⌝ }
 {
     let mut input = io::buffer();
@@ -223,7 +223,7 @@ fn walks(line: &[u8], from: usize, bytes: &[u8]) -> bool {
 }
 
 // `BYTES ANSWER ANSWER ..`, with the length of the value behind a success.
-pub fn walk_case(line: &[u8]) -> u64
+pub(crate) fn walk_case(line: &[u8]) -> u64
     ensures { λ r. ⌜ r ≤ 1 ⌝ }
 {
     let mut input = io::buffer();

@@ -31,7 +31,7 @@ fn read_table(line: &[u8], words: &mut [u64], text: &mut [u8]) -> Table
 }
 
 // What an output holds before it is lent. Neighbours differ, so that a byte in the wrong place shows.
-pub fn fresh(out: &mut [u8]) {
+pub(crate) fn fresh(out: &mut [u8]) {
     let mut i: usize = 0;
     while i < out.len() {
         out[i] = (i % 251) as u8;
@@ -58,7 +58,7 @@ fn goes_with(given: Written, due: Answer, length: u64, room: usize) -> bool {
     }
 }
 
-pub fn one(right: bool) -> u64
+pub(crate) fn one(right: bool) -> u64
     ensures { λ r. ⌜ r ≤ 1 ⌝ }
 {
     if right {
@@ -68,7 +68,7 @@ pub fn one(right: bool) -> u64
 }
 
 // So much of a buffer, or none of it where it has less.
-pub fn part(room: u64, buffer: &[u8]) -> usize
+pub(crate) fn part(room: u64, buffer: &[u8]) -> usize
     ensures { λ r. ⌜ Counts r (now (buffer .entry)) ⌝ }
 {
     if (buffer.len() as u64) < room {
@@ -139,7 +139,7 @@ fn right_written(line: &[u8], at: usize, words: &[u64], text: &[u8]) -> u64
 }
 
 // `WORDS TEXT ANSWER`, with the size behind a success.
-pub fn size_case(line: &[u8]) -> u64
+pub(crate) fn size_case(line: &[u8]) -> u64
     ensures { λ r. ⌜ r ≤ 1 ⌝ }
 {
     let mut words = [0u64; WORDS];
@@ -151,7 +151,7 @@ pub fn size_case(line: &[u8]) -> u64
 }
 
 // `WORDS TEXT ROOM ANSWER`, with the bytes behind a success.
-pub fn write_case(line: &[u8]) -> u64
+pub(crate) fn write_case(line: &[u8]) -> u64
     ensures { λ r. ⌜ r ≤ 2 ⌝ }
 {
     let mut words = [0u64; WORDS];
