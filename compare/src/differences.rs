@@ -1,5 +1,5 @@
 //! The known differences from the ported crate (docs/DIFFERENCES.md), each with its smallest tables: what the crate does, what
-//! we do, and what Part 1 says. That both do it is checked.
+//! we do, and what Part 1 says. That both do it is checked, and that the document states it.
 
 use crate::{
     original,
@@ -7,6 +7,7 @@ use crate::{
     report,
     table::{Kind, Table},
 };
+use std::collections::BTreeSet;
 
 /// What the crate and we do is said in one line: bytes in hex, where `00*8` is a byte eight times; a refusal, as `4 at 1`; or
 /// how it ends otherwise.
@@ -19,7 +20,10 @@ struct Case {
     part_1: &'static str,
 }
 
-const CASES: [Case; 15] = [
+/// The document. It has a section for each difference, where tables and bytes stand in backticks.
+const DOCUMENT: &str = include_str!("../../docs/DIFFERENCES.md");
+
+const CASES: [Case; 35] = [
     Case {
         difference: 1,
         rows: &[(Kind::Array, 1), (Kind::String, 2)],
@@ -53,10 +57,42 @@ const CASES: [Case; 15] = [
         part_1: "the second payload behind `c0` is `01 00`",
     },
     Case {
+        difference: 2,
+        rows: &[(Kind::Array, 2), (Kind::List, 0), (Kind::List, 1), (Kind::Null, 0)],
+        text: "",
+        crate_does: "e0 05 02 45 02 01 40",
+        we_do: "4 at 1",
+        part_1: "one element code for both, `e0 07 02 c0 01 00 02 01 40`",
+    },
+    Case {
+        difference: 2,
+        rows: &[(Kind::Array, 1), (Kind::Null, 0)],
+        text: "",
+        crate_does: "e0 02 01 40",
+        we_do: "4 at 1",
+        part_1: "the crate's bytes; that we refuse them is our own choice",
+    },
+    Case {
         difference: 3,
         rows: &[(Kind::Array, 2), (Kind::Ubyte, 0), (Kind::Byte, 0)],
         text: "",
         crate_does: "e0 04 02 50 00 00",
+        we_do: "4 at 2",
+        part_1: "all elements are of one type: no such array",
+    },
+    Case {
+        difference: 3,
+        rows: &[(Kind::Array, 2), (Kind::Ubyte, 0), (Kind::Ushort, 0)],
+        text: "",
+        crate_does: "e0 05 02 50 00 00 00",
+        we_do: "4 at 2",
+        part_1: "all elements are of one type: no such array",
+    },
+    Case {
+        difference: 3,
+        rows: &[(Kind::Array, 2), (Kind::Ubyte, 7), (Kind::Null, 0)],
+        text: "",
+        crate_does: "e0 04 02 50 07 40",
         we_do: "4 at 2",
         part_1: "all elements are of one type: no such array",
     },
@@ -125,6 +161,30 @@ const CASES: [Case; 15] = [
         part_1: "ours",
     },
     Case {
+        difference: 5,
+        rows: &[(Kind::Array, 1), (Kind::Described, 2), (Kind::Symbol, 0), (Kind::String, 0)],
+        text: "",
+        crate_does: "e0 0c 01 00 b3 00 00 00 00 b3 00 00 00 00",
+        we_do: "4 at 1",
+        part_1: "a string is no symbol: `e0 0c 01 00 b3 00 00 00 00 b1 00 00 00 00`",
+    },
+    Case {
+        difference: 5,
+        rows: &[(Kind::Array, 1), (Kind::Described, 2), (Kind::Symbol, 0), (Kind::Long, 0)],
+        text: "",
+        crate_does: "panics: internal error: entered unreachable code",
+        we_do: "4 at 1",
+        part_1: "an array as any other",
+    },
+    Case {
+        difference: 5,
+        rows: &[(Kind::Array, 1), (Kind::Described, 2), (Kind::Symbol, 0), (Kind::Binary, 0)],
+        text: "",
+        crate_does: "panics: internal error: entered unreachable code",
+        we_do: "4 at 1",
+        part_1: "an array as any other",
+    },
+    Case {
         difference: 6,
         rows: &[(Kind::Symbol, 2)],
         text: "c3 98",
@@ -140,9 +200,129 @@ const CASES: [Case; 15] = [
         we_do: "7 at 0",
         part_1: "the crate's bytes; the limit is our own",
     },
+    Case {
+        difference: 7,
+        rows: &[(Kind::Array, 2), (Kind::List, 1), (Kind::Null, 0), (Kind::List, 1), (Kind::Binary, 253)],
+        text: "00*253",
+        crate_does: "f0 00 00 01 0f 00 00 00 02 c0 02 01 40 00 00 01 03 00 00 00 01 a0 fd 00*253",
+        we_do: "4 at 1",
+        part_1: "fields as wide as the element code says",
+    },
+    Case {
+        difference: 7,
+        rows: &[(Kind::Array, 2), (Kind::List, 1), (Kind::Binary, 253), (Kind::List, 1), (Kind::Null, 0)],
+        text: "00*253",
+        crate_does: "f0 00 00 01 0f 00 00 00 02 d0 00 00 01 03 00 00 00 01 a0 fd 00*253 02 01 40",
+        we_do: "4 at 1",
+        part_1: "fields as wide as the element code says",
+    },
+    Case {
+        difference: 7,
+        rows: &[(Kind::Array, 2), (Kind::Map, 0), (Kind::Map, 2), (Kind::Null, 0), (Kind::Binary, 252)],
+        text: "00*252",
+        crate_does: "f0 00 00 01 0e 00 00 00 02 c1 01 00 00 00 01 03 00 00 00 02 40 a0 fc 00*252",
+        we_do: "4 at 1",
+        part_1: "fields as wide as the element code says",
+    },
+    Case {
+        difference: 7,
+        rows: &[(Kind::Array, 2), (Kind::Map, 2), (Kind::Null, 0), (Kind::Binary, 252), (Kind::Map, 0)],
+        text: "00*252",
+        crate_does: "f0 00 00 01 0e 00 00 00 02 d1 00 00 01 03 00 00 00 02 40 a0 fc 00*252 01 00",
+        we_do: "4 at 1",
+        part_1: "fields as wide as the element code says",
+    },
+    Case {
+        difference: 7,
+        rows: &[(Kind::Array, 2), (Kind::Array, 0), (Kind::Array, 1), (Kind::Binary, 250)],
+        text: "00*250",
+        crate_does: "f0 00 00 01 0e 00 00 00 02 e0 01 00 00 00 01 03 00 00 00 01 b0 00 00 00 fa 00*250",
+        we_do: "4 at 1",
+        part_1: "fields as wide as the element code says",
+    },
+    Case {
+        difference: 7,
+        rows: &[(Kind::Array, 2), (Kind::Array, 1), (Kind::Binary, 250), (Kind::Array, 0)],
+        text: "00*250",
+        crate_does: "f0 00 00 01 0e 00 00 00 02 f0 00 00 01 03 00 00 00 01 b0 00 00 00 fa 00*250 01 00",
+        we_do: "4 at 1",
+        part_1: "fields as wide as the element code says",
+    },
+    Case {
+        difference: 7,
+        rows: &[
+            (Kind::Array, 2),
+            (Kind::Described, 2),
+            (Kind::Ulong, 1),
+            (Kind::Ubyte, 7),
+            (Kind::Described, 2),
+            (Kind::Ulong, 1),
+            (Kind::Ubyte, 7),
+        ],
+        text: "",
+        crate_does: "e0 17 02 00 80 00 00 00 00 00 00 00 01 50 07 00*8 01 07",
+        we_do: "4 at 1",
+        part_1: "the descriptor once, `e0 07 02 00 53 01 50 07 07`",
+    },
+    Case {
+        difference: 7,
+        rows: &[
+            (Kind::Array, 2),
+            (Kind::Described, 2),
+            (Kind::Symbol, 0),
+            (Kind::Ubyte, 7),
+            (Kind::Described, 2),
+            (Kind::Symbol, 0),
+            (Kind::Ubyte, 7),
+        ],
+        text: "",
+        crate_does: "e0 0f 02 00 b3 00 00 00 00 50 07 00 00 00 00 00 07",
+        we_do: "4 at 1",
+        part_1: "the descriptor once, `e0 07 02 00 a3 00 50 07 07`",
+    },
+    Case {
+        difference: 7,
+        rows: &[(Kind::Array, 2), (Kind::List, 1), (Kind::Null, 0), (Kind::List, 1), (Kind::Null, 0)],
+        text: "",
+        crate_does: "e0 08 02 c0 02 01 40 02 01 40",
+        we_do: "4 at 1",
+        part_1: "the crate's bytes; that we refuse them is our own choice",
+    },
+    Case {
+        difference: 7,
+        rows: &[(Kind::Array, 2), (Kind::Map, 0), (Kind::Map, 0)],
+        text: "",
+        crate_does: "e0 06 02 c1 01 00 01 00",
+        we_do: "4 at 1",
+        part_1: "the crate's bytes; that we refuse them is our own choice",
+    },
+    Case {
+        difference: 7,
+        rows: &[(Kind::Array, 2), (Kind::Array, 1), (Kind::Ubyte, 7), (Kind::Array, 1), (Kind::Ubyte, 8)],
+        text: "",
+        crate_does: "e0 0a 02 e0 03 01 50 07 03 01 50 08",
+        we_do: "4 at 1",
+        part_1: "the crate's bytes; that we refuse them is our own choice",
+    },
+    Case {
+        difference: 7,
+        rows: &[(Kind::Array, 1), (Kind::Described, 2), (Kind::Ulong, 1), (Kind::Ubyte, 7)],
+        text: "",
+        crate_does: "e0 0d 01 00 80 00 00 00 00 00 00 00 01 50 07",
+        we_do: "4 at 1",
+        part_1: "the crate's bytes; that we refuse them is our own choice",
+    },
+    Case {
+        difference: 7,
+        rows: &[(Kind::Array, 2), (Kind::Array, 0), (Kind::Array, 0)],
+        text: "",
+        crate_does: "e0 06 02 e0 01 00 01 00",
+        we_do: "4 at 1",
+        part_1: "an element code in each empty array",
+    },
 ];
 
-/// Prints them all. False where the crate or we do something else.
+/// Prints them all. False where the crate or we do something else, or the document and the cases are not of the same tables.
 pub fn run() -> bool {
     report::heading("Known differences");
     let mut as_known = true;
@@ -165,7 +345,43 @@ pub fn run() -> bool {
     println!(
         "Not run: bodies of more than 4,294,967,291 bytes (6), where the crate gives `too_long` and casts lengths in arrays."
     );
-    as_known
+    let unlike = unlike_document();
+    for what in &unlike {
+        println!("\nNOT AS docs/DIFFERENCES.md: {what}");
+    }
+    as_known && unlike.is_empty()
+}
+
+/// What the document does not state of a case, and its tables that are no case.
+fn unlike_document() -> Vec<String> {
+    let mut unlike = Vec::new();
+    for case in &CASES {
+        let stated = stated(case.difference);
+        for due in [rows(case).as_str(), case.crate_does, case.we_do] {
+            let is_shown = due.split(' ').all(|word| word.len() > 1 && word.as_bytes()[..2].iter().all(u8::is_ascii_hexdigit));
+            if is_shown && !stated.contains(&due) {
+                unlike.push(format!("{} does not state `{due}`", case.difference));
+            }
+        }
+    }
+    for difference in CASES.iter().map(|case| case.difference).collect::<BTreeSet<_>>() {
+        let run: Vec<_> = CASES.iter().filter(|case| case.difference == difference).map(rows).collect();
+        let tables = stated(difference).into_iter().filter(|words| words.as_bytes().get(2) == Some(&b':'));
+        unlike.extend(tables.filter(|table| !run.iter().any(|rows| rows == table)).map(|table| format!("`{table}` is not run")));
+    }
+    unlike
+}
+
+/// What stands in backticks in the section of a difference.
+fn stated(difference: u32) -> Vec<&'static str> {
+    let head = format!("\n## {difference} ");
+    let section = DOCUMENT.split_once(&head).map_or("", |(_, behind)| behind.split("\n## ").next().unwrap_or(behind));
+    section.split('`').skip(1).step_by(2).collect()
+}
+
+fn rows(case: &Case) -> String {
+    let rows: Vec<_> = case.rows.iter().map(|&(kind, number)| format!("{:02x}:{number}", kind as u8)).collect();
+    rows.join(" ")
 }
 
 fn crate_does(table: &Table) -> String {
