@@ -200,7 +200,7 @@ impl Outside {
     }
 
     fn print(&self, rows: usize) {
-        println!("Of at most {rows} rows and outside the domain, differences 1 to 5:\n");
+        println!("Of at most {rows} rows and outside the domain, differences 1 to 5 and 7:\n");
         let of = |what: &str, count| vec![what.to_string(), report::number(count)];
         report::table(
             1,
