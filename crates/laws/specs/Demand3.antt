@@ -3,16 +3,19 @@
 use Prim.Native.Nat.{ℕ, _+_, _-_}
 use mathlib.Core.Path.{_≡_, refl, sym, ap, _∙_}
 use mathlib.Core.List.{List, _++_}
+use mathlib.Core.Bool.{Bool, true, false}
 use native.Mathlib.Omega.{arith}
-use lib.ListN.{length, take, length-append}
+use lib.Dec.{leb}
+use lib.ListN.{length, take, drop, length-append}
 use lib.Seq.{take-at}
-use Rattle.standard.specs.Answer.{Answer, got, refuse}
+use Rattle.standard.specs.Answer.{Answer, got, refuse, at, _>>_, need, outputShort}
 use Rattle.standard.specs.Tree.{Tree}
 use Rattle.standard.specs.Grammar.{Formed}
 use Rattle.standard.specs.Read.{front}
-use Rattle.standard.specs.Outcomes.{bytesOf, Extent, extent, measure, read}
+use Rattle.standard.specs.Outcomes.{bytesOf, writtenTo, write, Extent, extent, measure, read}
 use Rattle.laws.specs.Unique.{front-complete, front-reads, unique}
 use Rattle.laws.specs.Round as round
+use Rattle.laws.specs.Demand1.{roomed}
 use Rattle.laws.specs.Demand2.{demand2}
 
 -- bytes that begin with those of a well-formed value, which has that extent: its length, its rows and its text
@@ -26,7 +29,8 @@ pub record Begins (l : ℕ) (bytes : List ℕ) (e : Extent) : Type 0 where
 
 pub record Demand3 : Type 0 where
   -- no written table's bytes begin another's: if one's do, the two are the same rows and the same text
-  pub apart : (l : ℕ) (w x a u y b z : List ℕ) → bytesOf l w x ≡ got a → bytesOf l u y ≡ got b → b ≡ a ++ z → (w ≡ u) × (x ≡ y)
+  pub apart : (l : ℕ) (w x o u y q : List ℕ) (n m : ℕ) (z : List ℕ) → write l w x o .answer ≡ got n → write l u y q .answer ≡ got m
+      → take m (write l u y q .out) ≡ take n (write l w x o .out) ++ z → (w ≡ u) × (x ≡ y)
   -- of all bytes that arrive at most one beginning is well-formed, and it is the bytes of one value
   pub one : (l : ℕ) (r a b y z : List ℕ) (v u : Tree) → r ≡ a ++ y → Formed l v a → r ≡ b ++ z → Formed l u b → (a ≡ b) × (v ≡ u)
   -- its length is reported exactly when there is one; reading reports no other
@@ -38,6 +42,25 @@ pub record Demand3 : Type 0 where
   pub behind-read : (l : ℕ) (r z w x : List ℕ) (e : Extent) → read l r w x .answer ≡ got e → read l (take (e .length) r ++ z) w x ≡ read l r w x
 
 -- The proofs
+
+-- what is written is the bytes of the table
+wrote-of : (o : List ℕ) (n : ℕ) (m : Answer (List ℕ)) → writtenTo o (roomed o m) .answer ≡ got n → (a : List ℕ) × (m ≡ got a) × (take n (writtenTo o (roomed o m) .out) ≡ a)
+unfolding writtenTo
+wrote-of o n (refuse x p) e = let z : _≡_ {A = ℕ} 0 1 = cc in absurd (omega arith)
+wrote-of o n (got bs) e = by (leb (length bs) (length o)) e
+  where
+    by : (b : Bool) → writtenTo o (_>>_ (need b outputShort (at 0)) (got bs)) .answer ≡ got n
+        → (a : List ℕ) × (got bs ≡ got a) × (take n (writtenTo o (_>>_ (need b outputShort (at 0)) (got bs)) .out) ≡ a)
+    by true f = let i : length bs ≡ n = cc in (bs, refl, take-at bs (drop (length bs) o) n i)
+    by false f = let z : _≡_ {A = ℕ} 0 1 = cc in absurd (omega arith)
+
+written-apart : (l : ℕ) (w x o u y q : List ℕ) (n m : ℕ) (z : List ℕ) → write l w x o .answer ≡ got n → write l u y q .answer ≡ got m
+    → take m (write l u y q .out) ≡ take n (write l w x o .out) ++ z → (w ≡ u) × (x ≡ y)
+unfolding write
+written-apart l w x o u y q n m z e f i =
+    let a = wrote-of o n (bytesOf l w x) e in
+    let b = wrote-of q m (bytesOf l u y) f in
+    round.apart l w x (a .0) u y (b .0) z (a .1) (b .1) (ap (λ (t : List ℕ). t ++ z) (sym (a .2)) ∙ sym i ∙ b .2)
 
 measured : (l : ℕ) (r s : List ℕ) (v : Tree) → front l r ≡ got (v, s) → measure l r ≡ got (extent v (length r - length s))
 unfolding measure
@@ -86,7 +109,7 @@ behind-reading l r z w x e f =
 
 pub demand3 : Demand3
 demand3 = record {
-  apart = λ l w x a u y b z e f i. round.apart l w x a u y b z e f (sym i);
+  apart = written-apart;
   one = λ l r a b y z v u e f g h. let k = unique l v u a b y z f h (sym e ∙ g) in (k .2, k .0);
   reported = measures;
   whenever = λ l r e h. ap (measure l) (h .split) ∙ formed-measured l (h .tree) (h .front) (h .behind) (h .formed) ∙ ap got (sym (h .isExtent));
