@@ -166,7 +166,7 @@ pub writes-forty : (f : Writer) → Writes f → WritesForty f → ⊥
 writes-forty f p h =
     let t = told f p 0x70 0x43 (lit< tt) zero-written in
     let e : _≡_ {A = List ℕ} (0x43 ∷ []) (0x40 ∷ []) =
-        sym (ap (λ r. r .out) t) ∙ h (0x70 ∷ 0 ∷ []) [] (0 ∷ []) 1 (one-row 0x70 0 (lit< tt) (lit< tt)) no-bytes (one-byte 0 (lit< tt)) (ap (λ r. r .answer) t) in
+    sym (ap (λ r. r .out) t) ∙ h (0x70 ∷ 0 ∷ []) [] (0 ∷ []) 1 (one-row 0x70 0 (lit< tt) (lit< tt)) no-bytes (one-byte 0 (lit< tt)) (ap (λ r. r .answer) t) in
     let i : _≡_ {A = ℕ} 0x43 0x40 = cc in omega (arith, i)
 
 -- A writer that says yes and writes nothing
@@ -185,7 +185,7 @@ pub writes-nothing : (f : Writer) → Writes f → WritesNothing f → ⊥
 writes-nothing f p h =
     let t = told f p 0x40 0x40 (lit< tt) null-written in
     let e : _≡_ {A = List ℕ} (0x40 ∷ []) (0 ∷ []) =
-        sym (ap (λ r. r .out) t) ∙ h (0x40 ∷ 0 ∷ []) [] (0 ∷ []) 1 (one-row 0x40 0 (lit< tt) (lit< tt)) no-bytes (one-byte 0 (lit< tt)) (ap (λ r. r .answer) t) in
+    sym (ap (λ r. r .out) t) ∙ h (0x40 ∷ 0 ∷ []) [] (0 ∷ []) 1 (one-row 0x40 0 (lit< tt) (lit< tt)) no-bytes (one-byte 0 (lit< tt)) (ap (λ r. r .answer) t) in
     let i : _≡_ {A = ℕ} 0x40 0 = cc in omega (arith, i)
 
 -- A reader that, wherever it gives a table, gives always the same
@@ -221,8 +221,8 @@ one-table-reader = record { program = nuller; does = λ r w x e a b c. does r w 
 pub gives-one-table : (f : Reader) → Reads f → (table : List ℕ) → GivesOneTable table f → ⊥
 gives-one-table f p t h =
     let i : (b k : ℕ) → b < 256 → read levelMost (b ∷ []) (0 ∷ 0 ∷ []) [] ≡ read-row k → _≡_ {A = List ℕ} (k ∷ 0 ∷ []) (over t (0 ∷ 0 ∷ [])) = λ b k o e.
-        let a = p (b ∷ []) (0 ∷ 0 ∷ []) [] (one-byte b o) (one-row 0 0 (lit< tt) (lit< tt)) no-bytes ∙ e in
-        sym (ap (λ r. r .words) a) ∙ h (b ∷ []) (0 ∷ 0 ∷ []) [] (record { length = 1; rows = 1; text = 0 }) (one-byte b o) (one-row 0 0 (lit< tt) (lit< tt)) no-bytes (ap (λ r. r .answer) a) in
+    let a = p (b ∷ []) (0 ∷ 0 ∷ []) [] (one-byte b o) (one-row 0 0 (lit< tt) (lit< tt)) no-bytes ∙ e in
+    sym (ap (λ r. r .words) a) ∙ h (b ∷ []) (0 ∷ 0 ∷ []) [] (record { length = 1; rows = 1; text = 0 }) (one-byte b o) (one-row 0 0 (lit< tt) (lit< tt)) no-bytes (ap (λ r. r .answer) a) in
     let e : _≡_ {A = List ℕ} (0x40 ∷ 0 ∷ []) (0x70 ∷ 0 ∷ []) = i 0x40 0x40 (lit< tt) null-read ∙ sym (i 0x43 0x70 (lit< tt) zero-read) in
     let j : _≡_ {A = ℕ} 0x40 0x70 = cc in omega (arith, j)
 
@@ -306,5 +306,5 @@ repeater = (λ r i. record { answer = part 0 1; at = 1 }, λ r i a. refl)
 pub repeats : (f : Walker) → Steps f → Repeats f → ⊥
 repeats f p h =
     let e : _≡_ {A = Step} (part 1 1) (part 0 1) =
-        sym (ap (λ s. s .answer) (p two-nulls 1 two-nulls-lent ∙ second-step)) ∙ h two-nulls 1 two-nulls-lent ∙ ap (λ s. s .answer) (p two-nulls 0 two-nulls-lent ∙ first-step) in
+    sym (ap (λ s. s .answer) (p two-nulls 1 two-nulls-lent ∙ second-step)) ∙ h two-nulls 1 two-nulls-lent ∙ ap (λ s. s .answer) (p two-nulls 0 two-nulls-lent ∙ first-step) in
     let z : _≡_ {A = ℕ} 1 0 = cc in omega arith

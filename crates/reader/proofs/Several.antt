@@ -267,14 +267,16 @@ module _ (s : List ℕ) (h : Head) (l count p a i j left : ℕ) (g : Going s h l
             let v = length-drop b s in
             let w : (p + a) + (length (drop a s) - length (q .rest)) ≡ p + (b + x .length) = omega (arith, u .room, q .bytes, begun, length-drop a s, g .inside) in
             let y : q .rest ≡ drop (b + x .length) s = u .left ∙ rw (← q .bytes, drop-drop (x .length) b s) in
-            let some = out (rw (q .isRead) at (payload-some l c (p + a) (drop b s))) in
-            (record {
-              taking = g .taking;
-              inside = omega (arith, u .room, q .bytes, begun);
-              height = omega (arith, u .rows, q .bytes, q .rows, o .begins, g .height);
-              letters = omega (arith, u .letters, q .bytes, q .letters, o .begins, g .letters);
-              sum = rw (q .rows, q .letters, ← w, ← y) (sym (many-got (reads h l) (length s) i j left (p + a) (drop a s) (q .tree) (q .rest) n (same ∙ q .isRead)) ∙ g .sum);
-            }, by-head h l a (drop a s) c b e (g .taking) (x .length) (λ t. omega (arith, some t, q .bytes)))
+            let some = out (rw (q .isRead) at (payload-some l c (p + a) (drop b s))) in (
+              record {
+                taking = g .taking;
+                inside = omega (arith, u .room, q .bytes, begun);
+                height = omega (arith, u .rows, q .bytes, q .rows, o .begins, g .height);
+                letters = omega (arith, u .letters, q .bytes, q .letters, o .begins, g .letters);
+                sum = rw (q .rows, q .letters, ← w, ← y) (sym (many-got (reads h l) (length s) i j left (p + a) (drop a s) (q .tree) (q .rest) n (same ∙ q .isRead)) ∙ g .sum);
+              },
+              by-head h l a (drop a s) c b e (g .taking) (x .length) (λ t. omega (arith, some t, q .bytes)),
+            )
 
   -- a scalar that needs no look
   pub plainly : 0 < left → (c b : ℕ) → codeAt h l a (drop a s) ≡ Behind c b → (w : ℕ) → Plain c w → w ≤ length s - b → Going s h l count p (b + w) (i + 1) j (left - 1) × (a < b + w)
