@@ -7,37 +7,16 @@ use mathlib.Core.Logic.{_⊎_, inl, inr}
 use mathlib.Core.Bool.{Bool, true, false, not, _&&_}
 use native.Mathlib.Nat.{add-zero, zero-add, add-suc, suc-add, add-assoc}
 use native.Mathlib.Omega.{arith}
-use borrow.Author.Tests.{le-leb, lt-leb, ne-eqb, eqb-true, eqb-false}
+use borrow.Author.Tests.{le-leb, ne-eqb, eqb-true, eqb-false}
 use lib.Dec.{T, eqb, ltb, ltb→lt, leb, leb→le}
 use lib.ListN.{length, drop, length-append}
 use Rattle.standard.specs.Choose.{if}
 use Rattle.standard.specs.Utf8.{In, Utf8Char, utf8-1, utf8-2, utf8-3-e0, utf8-3-e1, utf8-3-ed, utf8-3-ee, utf8-4-f0, utf8-4-f1, utf8-4-f4, AsciiChar, ascii-1, Run, stop, char, FirstFault, GoodText, string, symbol, other}
 use Rattle.standard.specs.Text.{Range, from_to_, within, tail, Sequence, sequence, utf8, ascii, Lead, stray, then, leadIn, Fault, flawless, fault, isFlawless, faultDue, faultIn}
 use Rattle.standard.specs.Kinds.{flaw, clean}
-use Rattle.standard.specs.Facts.{T-true, and-left, and-right}
+use Rattle.standard.specs.Facts.{T-true, and-left, and-right, Past, past, here, none-due}
 
 -- What a first byte asks for, in any list of sequences
-
-and-false : (a : Bool) → a && false ≡ false
-and-false true = refl
-and-false false = refl
-
--- the first k rows end below b
-abbrev pub Past : ℕ → List Sequence → ℕ → Type 0
-Past zero ss b = Unit {0}
-Past (suc k) [] b = Unit {0}
-Past (suc k) (s ∷ ss) b = (s .lead .hi < b) × Past k ss b
-
-pub past : (k : ℕ) (ss : List Sequence) (b : ℕ) → Past k ss b → leadIn ss b ≡ leadIn (drop k ss) b
-unfolding leadIn
-past zero ss b h = refl
-past (suc k) [] b h = refl
-past (suc k) (s ∷ ss) b h = rw (lt-leb b (s .lead .hi) (h .0), and-false (leb (s .lead .lo) b)) (past k ss b (h .1))
-
--- the first row holds b
-pub here : (s : Sequence) (ss : List Sequence) (b : ℕ) → s .lead .lo ≤ b → b ≤ s .lead .hi → leadIn (s ∷ ss) b ≡ then (s .rest)
-unfolding leadIn
-here s ss b l h = rw (le-leb (s .lead .lo) b l, le-leb b (s .lead .hi) h)
 
 -- b is in the range of one of these rows, and these bytes follow
 abbrev Found : List Sequence → (b : ℕ) → List Range → Type 0
@@ -67,15 +46,9 @@ data Listed (ss : List Sequence) : List ℕ → Type 0 where
   listed : {b : ℕ} {bs : List ℕ} {rs : List Range} → leadIn ss b ≡ then rs → Each rs bs → Listed ss (b ∷ bs)
 
 module _ (ss : List Sequence) where
-  -- where no byte is due, it does not matter where the last sequence began
-  pub none-due : (s t p : ℕ) (bs : List ℕ) → faultDue ss s p bs [] ≡ faultDue ss t p bs []
-  unfolding faultDue
-  none-due s t p [] = refl
-  none-due s t p (b ∷ bs) = refl
-
   due-past : (rs : List Range) (a : List ℕ) → Each rs a → (s p : ℕ) (z : List ℕ) → faultDue ss s p (a ++ z) rs ≡ faultDue ss 0 (p + length a) z []
   unfolding faultDue
-  due-past [] [] h s p z = rw add-zero (none-due s 0 p z)
+  due-past [] [] h s p z = rw add-zero (none-due ss s 0 p z)
   due-past [] (b ∷ a) h s p z = absurd h
   due-past (r ∷ rs) [] h s p z = absurd h
   due-past (r ∷ rs) (b ∷ a) h s p z = rw (T-true (within r b) (h .0), add-suc p (length a), ← suc-add p (length a)) (due-past rs a (h .1) s (suc p) z)

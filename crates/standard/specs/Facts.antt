@@ -1,12 +1,13 @@
 -- Small facts about tests, tables and refusals, which proofs of every crate cite.
-use Prim.Native.Nat.{ℕ}
+use Prim.Native.Nat.{ℕ, zero, suc, _≤_, _<_}
 use mathlib.Core.Path.{_≡_, refl}
 use mathlib.Core.List.{List, [], _∷_}
 use mathlib.Core.Bool.{Bool, true, false, not, _&&_}
-use borrow.Author.Tests.{ne-eqb}
-use lib.Dec.{T, eqb}
+use borrow.Author.Tests.{ne-eqb, le-leb, lt-leb}
+use lib.Dec.{T, eqb, leb}
+use lib.ListN.{drop}
 use Rattle.standard.specs.Choose.{if, lookup}
-use Rattle.standard.specs.Text.{flawless, isFlawless, faultDue}
+use Rattle.standard.specs.Text.{Sequence, then, leadIn, flawless, isFlawless, faultDue}
 use Rattle.standard.specs.Kinds.{flaw, clean}
 use Rattle.standard.specs.declared.refusal.Refusal.{Refusal}
 
@@ -46,6 +47,35 @@ clean-nil k = both (eqb k 0xb1) (eqb k 0xb3)
     both true b = refl
     both false true = refl
     both false false = refl
+
+-- Lists of sequences (Text.antt): what a first byte asks for, and what is found behind a whole sequence
+
+and-false : (a : Bool) → a && false ≡ false
+and-false true = refl
+and-false false = refl
+
+-- the first k rows end below b
+abbrev pub Past : ℕ → List Sequence → ℕ → Type 0
+Past zero ss b = Unit {0}
+Past (suc k) [] b = Unit {0}
+Past (suc k) (s ∷ ss) b = (s .lead .hi < b) × Past k ss b
+
+pub past : (k : ℕ) (ss : List Sequence) (b : ℕ) → Past k ss b → leadIn ss b ≡ leadIn (drop k ss) b
+unfolding leadIn
+past zero ss b h = refl
+past (suc k) [] b h = refl
+past (suc k) (s ∷ ss) b h = rw (lt-leb b (s .lead .hi) (h .0), and-false (leb (s .lead .lo) b)) (past k ss b (h .1))
+
+-- the first row holds b
+pub here : (s : Sequence) (ss : List Sequence) (b : ℕ) → s .lead .lo ≤ b → b ≤ s .lead .hi → leadIn (s ∷ ss) b ≡ then (s .rest)
+unfolding leadIn
+here s ss b l h = rw (le-leb (s .lead .lo) b l, le-leb b (s .lead .hi) h)
+
+-- where no byte is due, it does not matter where the last sequence began
+pub none-due : (ss : List Sequence) (s t p : ℕ) (bs : List ℕ) → faultDue ss s p bs [] ≡ faultDue ss t p bs []
+unfolding faultDue
+none-due ss s t p [] = refl
+none-due ss s t p (b ∷ bs) = refl
 
 -- a refusal of the code is its number and its place
 pub same-refusal : (f g : Refusal) → f .number ≡ g .number → f .place ≡ g .place → f ≡ g

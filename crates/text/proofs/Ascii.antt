@@ -13,8 +13,7 @@ use lib.Seq.{drop-cons, drop-drop, getD-drop}
 use Rattle.standard.specs.Choose.{if}
 use Rattle.standard.specs.Text.{from_to_, sequence, Sequence, leadIn, ascii, fault, faultDue}
 use Rattle.text.specs.Steps.{asciiRun}
-use Rattle.standard.specs.Facts.{T-true, if-case}
-use Rattle.laws.specs.Sequences.{none-due}
+use Rattle.standard.specs.Facts.{T-true, if-case, none-due}
 use Rattle.text.proofs.Sequences.{faultFrom}
 
 run-le : (bs : List ℕ) → asciiRun bs ≤ length bs

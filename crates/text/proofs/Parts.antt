@@ -10,9 +10,8 @@ use lib.ListN.{length, take, drop, length-drop, drop-of-length-le}
 use lib.Seq.{take-nil}
 use Rattle.standard.specs.Text.{Sequence, utf8, ascii, leadIn, flawless, faultDue}
 use Rattle.standard.specs.Kinds.{flaw, clean}
-use Rattle.standard.specs.Facts.{T-true, if-case, clean-nil}
+use Rattle.standard.specs.Facts.{T-true, if-case, clean-nil, none-due}
 use Rattle.text.specs.Steps.{asciiRun}
-use Rattle.laws.specs.Sequences.{none-due}
 use Rattle.text.proofs.Ascii.{single}
 
 take-least : (m n : ℕ) (bs : List ℕ) → m ≡ min n (length bs) → take m bs ≡ take n bs

@@ -13,8 +13,7 @@ use lib.Seq.{drop-cons, drop-drop}
 use Rattle.standard.specs.Choose.{if}
 use Rattle.standard.specs.Text.{Range, within, Sequence, Lead, stray, then, leadIn, Fault, flawless, fault, led, faultDue}
 use Rattle.text.specs.Steps.{stand, widthBy, widthIn}
-use Rattle.laws.specs.Sequences.{none-due}
-use Rattle.standard.specs.Facts.{and-right, if-case}
+use Rattle.standard.specs.Facts.{none-due, and-right, if-case}
 
 and-true : (a : Bool) → a && true ≡ a
 and-true true = refl

@@ -2,7 +2,7 @@
 use mathlib.Core.Path.{sym, _∙_}
 use native.Mathlib.Omega.{arith}
 use Rattle.standard.specs.Text.{leadIn, utf8}
-use Rattle.laws.specs.Sequences.{past, here}
+use Rattle.standard.specs.Facts.{past, here}
 use Rattle.text.proofs.Sequences.{below}
 use Rattle.text.proofs.lead_of.Statement.{statement}
 use Rattle.text.proofs.lead_of.Tie as tie
