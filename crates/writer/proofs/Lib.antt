@@ -9,7 +9,6 @@ pub mod Sums
 pub mod Sizes
 pub mod Plain
 pub mod Turns
-pub mod Walks
 pub mod Whole
 pub mod Onward
 pub mod Writes

@@ -102,7 +102,7 @@ unfolding grown
 value-is w x l c i j k n e = tree-checked l c i (drop (2 * i) w) (drop j x) ∙ rw (e, next-row w i, drop-drop (letters (styleOf k) n) j x)
 
 -- a refusal of the first is the refusal of all
-pub values-no : (w x : List ℕ) (l : ℕ) (c : Spot) (n i j a : ℕ) (p : Place) → 0 < n → tree l c i (drop (2 * i) w) (drop j x) ≡ refuse a p → values w x l c n i j ≡ refuse a p
+values-no : (w x : List ℕ) (l : ℕ) (c : Spot) (n i j a : ℕ) (p : Place) → 0 < n → tree l c i (drop (2 * i) w) (drop j x) ≡ refuse a p → values w x l c n i j ≡ refuse a p
 unfolding several
 values-no w x l c zero i j a p h e = absurd (omega arith)
 values-no w x l c (suc n) i j a p h e = rw e
@@ -411,7 +411,7 @@ finished w x l c zero e b h = (fits-same (omega arith) (omega arith) (omega (ari
 finished w x l c (suc n) e b h = absurd (omega arith)
 
 -- a refusal has nothing behind it
-pub refused-all : (c : Spot) (o : Extent) (a p : ℕ) (b d : List ℕ) (q : Answer (Trees × List ℕ × List ℕ)) → q ≡ refuse a (at p) → (Refused (record { number = a; place = p }) ≡ totalFrom c o q) × Marked b (o .mark) d q
+refused-all : (c : Spot) (o : Extent) (a p : ℕ) (b d : List ℕ) (q : Answer (Trees × List ℕ × List ℕ)) → q ≡ refuse a (at p) → (Refused (record { number = a; place = p }) ≡ totalFrom c o q) × Marked b (o .mark) d q
 unfolding total Marked
 refused-all c o a p b d q e = rw e (refl, tt)
 

@@ -21,7 +21,7 @@ use Rattle.writer.specs.Heads.{enclosure, head, itemWidth}
 use Rattle.writer.specs.Marks.{markWidth, marks, marks*}
 use Rattle.writer.specs.Filling.{elementsOf}
 use Rattle.writer.specs.Rows.{check}
-use Rattle.writer.specs.Sizing.{total, totalFrom, Marked, headSize, codeWidth, values, sizeIn, Sure, holder, opens, numberSize, textSize, lettersSize, alone, takenOf, begin, past, Within, Comes, Rowed}
+use Rattle.writer.specs.Sizing.{total, totalFrom, Marked, headSize, codeWidth, values, sizeIn, Sure, holder, opens, numberSize, textSize, lettersSize, alone, takenOf, begin, past, inside, closed, MarkPut, Within, Comes, Rowed}
 use Rattle.standard.specs.declared.refusal.Refusal.{Refusal}
 use Rattle.writer.specs.declared.sizing.Sized.{Sized}
 use Rattle.writer.specs.declared.sizing.Sized.the-variants.{Fits, Refused}
@@ -308,7 +308,18 @@ no-mark : (b : List ℕ) (m width body : ℕ) → width ≡ 0 → b ≡ sets b m
 unfolding be
 no-mark b m width body e = rw e
 
-module _ (w x : List ℕ) (l : ℕ) (o : Extent) (n : ℕ) (b : List ℕ) (g : Within w x o) (h : 0 < n) where
+-- the mark of an open row has no bytes or three, and its head at most nine
+pub mark-few : (k : ℕ) → if (eqb k 0) 0 3 ≤ 3
+mark-few k = if-case (λ (t : ℕ). t ≤ 3) (eqb k 0) 0 3 (λ t. omega arith) (λ t. omega arith)
+
+pub mark-three : (k w : ℕ) → w ≡ if (eqb k 0) 0 3 → (w ≡ 0 → ⊥) → w ≡ 3
+mark-three k w e = rw e (if-case (λ (t : ℕ). (t ≡ 0 → ⊥) → t ≡ 3) (eqb k 0) 0 3 (λ t h. absurd (h refl)) (λ t h. refl))
+
+pub head-few : (k n : ℕ) → if (eqb k 0) 1 (if (ltb n shortEnd) 3 9) ≤ 9
+head-few k n =
+    if-case (λ (t : ℕ). t ≤ 9) (eqb k 0) 1 (if (ltb n shortEnd) 3 9) (λ t. omega arith) (λ t. if-case (λ (t : ℕ). t ≤ 9) (ltb n shortEnd) 3 9 (λ t. omega arith) (λ t. omega arith))
+
+module _ (w x : List ℕ) (l : ℕ) (o : Extent) (b : List ℕ) (g : Within w x o) where
   -- a leaf of z bytes, y of them text
   module _ (y z : ℕ) (leaf-at : LeafFront l (drop (2 * (o .row)) w) (drop (o .text) x) y z) where
     leaf-entered : Entered w x l (o .row) (o .text) (leaf-at .kind) (leaf-at .number) (o .mark) b
@@ -330,65 +341,73 @@ module _ (w x : List ℕ) (l : ℕ) (o : Extent) (n : ℕ) (b : List ℕ) (g : W
         moved P refl (omega (arith, r .sound .worded)) (omega (arith, r .sound .worded, r .sound .uncoded, r .sized (codeWidth (styleOf (leaf-at .kind)) (leaf-at .number) + 0))) (omega (arith, r .unmarked))
 
     leaf-within : Within w x (past o y z)
-    leaf-within = leaf-adds (Within w x) (turn-within w x l any o n b g tt h (leaf-at .kind) (leaf-at .number) leaf-checked _ b leaf-entered _ refl)
+    leaf-within = leaf-adds (Within w x) (turn-within w x l any o 1 b g tt (omega arith) (leaf-at .kind) (leaf-at .number) leaf-checked _ b leaf-entered _ refl)
 
-    pub leaf-comes : Comes w x l any o n b any (past o y z) (n - 1) b
+    pub leaf-rowed : Rowed w x l o b b (Fits (past o y z))
     unfolding next
-    leaf-comes =
-        leaf-adds (λ e. Comes w x l any o n b any e (n - 1) b)
-        (turn-comes w x l any o n b g tt h (leaf-at .kind) (leaf-at .number) leaf-checked _ b leaf-entered _ refl b (λ _. no-mark b (o .mark) _ _ (leaf-at .row .unmarked)) refl)
+    leaf-rowed = (
+      leaf-within,
+      λ n h. leaf-adds (λ e. Comes w x l any o n b any e (n - 1) b)
+          (turn-comes w x l any o n b g tt h (leaf-at .kind) (leaf-at .number) leaf-checked _ b leaf-entered _ refl b (λ _. no-mark b (o .mark) _ _ (leaf-at .row .unmarked)) refl),
+    )
 
     pub leaf-sums : length w * 8 < 2 ^ 63 → length x * 1 < 2 ^ 63 → (o .row + 1 < 2 ^ 64) × (o .text + y < 2 ^ 64) × (o .size + z < 2 ^ 64)
     leaf-sums p q =
         let v = leaf-within in
         (omega (arith, v .rows), omega (arith, v .letters), omega (arith, v .small, v .rows, v .letters))
 
-  -- an open row of kind k with m children, of which y is found
-  module _ (k m : ℕ) (t : takenOf l (drop (2 * (o .row)) w) (drop (o .text) x) ≡ Open k m) (width : ℕ) (i : width ≡ if (eqb k 0) 0 3) (y : Sized) (b₁ : List ℕ)
-      (sums : y ≡ totalFrom any (record { row = o .row + 1; text = o .text; size = 0; mark = o .mark + width }) (values w x (l - 1) any m (o .row + 1) (o .text)))
-      (marks : Marked b (o .mark + width) b₁ (values w x (l - 1) any m (o .row + 1) (o .text))) (kept : length b₁ ≡ length b) where
+  -- an open row of kind k with m children
+  module _ (k m : ℕ) (t : takenOf l (drop (2 * (o .row)) w) (drop (o .text) x) ≡ Open k m) where
     open-at : OpenFront l (drop (2 * (o .row)) w) (drop (o .text) x) k m
     open-at = open-front l (drop (2 * (o .row)) w) (drop (o .text) x) k m t
 
-    open-entered : Entered w x l (o .row) (o .text) k m (o .mark) b y b₁
-    open-entered =
-        let j : o .text + 0 ≡ o .text = omega arith in
-        entered-some w x l (o .row) (o .text) k m (o .mark) b (styleOf k) 0 m width any y b₁ refl (sym (open-at .row .sound .worded)) (sym (open-at .row .full)) (i ∙ sym (open-at .row .marked)) (sym (open-at .row .spot)) (rw j sums) (rw j marks) kept
+    -- the place of the first of them
+    pub open-first : Within w x (inside o k) × (0 < l)
+    open-first =
+        let f = open-at .front in
+        (record { rows = omega (arith, ap length (f .words), length-drop (2 * (o .row)) w); letters = g .letters; marked = omega (arith, g .marked, mark-few k); small = omega arith }, f .level)
 
-    open-checked : check l any (o .row) (drop (2 * (o .row)) w) (drop (o .text) x) ≡ got (k, m)
-    open-checked = sound-check l (o .row) k m (drop (2 * (o .row)) w) (drop (o .text) x) 0 (open-at .front) (open-at .row .sound)
+    -- y is what is found of them
+    module _ (y : Sized) (b₁ : List ℕ) (sums : y ≡ totalFrom any (inside o k) (values w x (l - 1) any m (o .row + 1) (o .text))) (marks : Marked b (inside o k .mark) b₁ (values w x (l - 1) any m (o .row + 1) (o .text)))
+        (kept : length b₁ ≡ length b) where
+      open-entered : Entered w x l (o .row) (o .text) k m (o .mark) b y b₁
+      open-entered =
+          let j : o .text + 0 ≡ o .text = omega arith in
+          entered-some w x l (o .row) (o .text) k m (o .mark) b (styleOf k) 0 m _ any y b₁ refl (sym (open-at .row .sound .worded)) (sym (open-at .row .full)) (sym (open-at .row .marked)) (sym (open-at .row .spot)) (rw j sums) (rw j marks) kept
 
-    pub open-no : (f : Refusal) → y ≡ Refused f → tree l any (o .row) (drop (2 * (o .row)) w) (drop (o .text) x) ≡ refuse (f .number) (at (f .place))
-    open-no f e = turn-no w x l any o n b g tt h k m open-checked y b₁ open-entered f e
+      open-checked : check l any (o .row) (drop (2 * (o .row)) w) (drop (o .text) x) ≡ got (k, m)
+      open-checked = sound-check l (o .row) k m (drop (2 * (o .row)) w) (drop (o .text) x) 0 (open-at .front) (open-at .row .sound)
 
-    module _ (e : Extent) (fits : y ≡ Fits e) (top : ℕ) (j : top ≡ if (eqb k 0) 1 (if (ltb (e .size) shortEnd) 3 9)) where
-      open-adds : (P : Extent → Type 0)
-          → P (record { row = e .row; text = e .text; size = o .size + (headSize any (styleOf k) k m (codeWidth (styleOf k) m + e .size) + letters (styleOf k) m + (codeWidth (styleOf k) m + e .size)); mark = e .mark })
-          → P (record { row = e .row; text = e .text; size = o .size + (top + e .size); mark = e .mark })
-      unfolding headSize
-      open-adds P =
-          let r = open-at .row in
-          let a : codeWidth (styleOf k) m + e .size ≡ e .size = omega (arith, r .sound .uncoded) in
-          moved P refl refl (rw a (omega (arith, r .sound .worded, r .headed (e .size), j))) refl
+      pub open-no : (f : Refusal) → y ≡ Refused f → Rowed w x l o b b₁ (Refused f)
+      open-no f e = turn-no w x l any o 1 b g tt (omega arith) k m open-checked y b₁ open-entered f e
 
-      pub open-within : Within w x (record { row = e .row; text = e .text; size = o .size + (top + e .size); mark = e .mark })
-      open-within = open-adds (Within w x) (turn-within w x l any o n b g tt h k m open-checked y b₁ open-entered e fits)
+      module _ (e : Extent) (fits : y ≡ Fits e) where
+        open-adds : (P : Extent → Type 0)
+            → P (record { row = e .row; text = e .text; size = o .size + (headSize any (styleOf k) k m (codeWidth (styleOf k) m + e .size) + letters (styleOf k) m + (codeWidth (styleOf k) m + e .size)); mark = e .mark })
+            → P (closed o k e)
+        unfolding headSize
+        open-adds P =
+            let r = open-at .row in
+            let a : codeWidth (styleOf k) m + e .size ≡ e .size = omega (arith, r .sound .uncoded) in
+            moved P refl refl (rw a (omega (arith, r .sound .worded, r .headed (e .size)))) refl
 
-      pub open-comes : (b₂ : List ℕ) → (o .mark + width ≤ length b₁ → b₂ ≡ sets b₁ (o .mark) (be width (e .size))) → length b₂ ≡ length b₁
-          → Comes w x l any o n b any (record { row = e .row; text = e .text; size = o .size + (top + e .size); mark = e .mark }) (n - 1) b₂
-      unfolding next
-      open-comes b₂ put same =
-          let a : codeWidth (styleOf k) m + e .size ≡ e .size = omega (arith, open-at .row .sound .uncoded) in
-          open-adds (λ d. Comes w x l any o n b any d (n - 1) b₂)
-          (turn-comes w x l any o n b g tt h k m open-checked y b₁ open-entered e fits b₂ (rw (a, ← i ∙ sym (open-at .row .marked)) put) same)
+        open-within : Within w x (closed o k e)
+        open-within = open-adds (Within w x) (turn-within w x l any o 1 b g tt (omega arith) k m open-checked y b₁ open-entered e fits)
 
--- the place of an open row's first child
-pub open-first : (w x : List ℕ) (l : ℕ) (o : Extent) (k m width : ℕ) → Within w x o → takenOf l (drop (2 * (o .row)) w) (drop (o .text) x) ≡ Open k m → width ≡ if (eqb k 0) 0 3
-    → Within w x (record { row = o .row + 1; text = o .text; size = 0; mark = o .mark + width }) × (0 < l)
-open-first w x l o k m width g t i =
-    let f = open-front l (drop (2 * (o .row)) w) (drop (o .text) x) k m t .front in
-    let a : width ≤ 3 = rw i (if-case (λ (z : ℕ). z ≤ 3) (eqb k 0) 0 3 (λ y. omega arith) (λ y. omega arith)) in
-    (record { rows = omega (arith, ap length (f .words), length-drop (2 * (o .row)) w); letters = g .letters; marked = omega (arith, g .marked); small = omega arith }, f .level)
+        pub open-sums : length w * 8 < 2 ^ 63 → length x * 1 < 2 ^ 63 → o .size + 9 + e .size < 2 ^ 64
+        open-sums p q = let v = open-within in omega (arith, v .rows, v .letters, v .small)
+
+        pub open-rowed : (b₂ : List ℕ) → MarkPut b₁ (o .mark) k (e .size) b₂ → length b₂ ≡ length b₁ → Rowed w x l o b b₂ (Fits (closed o k e))
+        unfolding next
+        open-rowed b₂ put same =
+            let a : codeWidth (styleOf k) m + e .size ≡ e .size = omega (arith, open-at .row .sound .uncoded) in (
+              open-within,
+              λ n h. open-adds (λ d. Comes w x l any o n b any d (n - 1) b₂) (turn-comes w x l any o n b g tt h k m open-checked y b₁ open-entered e fits b₂ (rw (a, open-at .row .marked) put) same),
+            )
+
+-- from a row to the one behind it
+pub rowed-on : {w x : List ℕ} {l : ℕ} {o₀ o : Extent} {n₀ n : ℕ} {b₀ b : List ℕ} → Comes w x l any o₀ n₀ b₀ any o n b → 0 < n → (e : Extent) (a : List ℕ) → Rowed w x l o b a (Fits e) → Within w x e × Comes w x l any o₀ n₀ b₀ any e (n - 1) a
+rowed-on {n = n} p h e a r = (r .0, comes-on p (r .1 n h))
 
 -- Elements of an array
 

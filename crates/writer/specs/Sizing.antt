@@ -142,9 +142,9 @@ past o n z = record { row = o .row + 1; text = o .text + n; size = o .size + z; 
 abbrev pub inside : Extent → (kind : ℕ) → Extent
 inside o k = record { row = o .row + 1; text = o .text; size = 0; mark = o .mark + if (eqb k 0) 0 3 }
 
--- behind its last one, which is before e, where s bytes are before the row
-abbrev pub closed : (s kind : ℕ) → Extent → Extent
-closed s k e = record { row = e .row; text = e .text; size = s + (if (eqb k 0) 1 (if (ltb (e .size) shortEnd) 3 9) + e .size); mark = e .mark }
+-- behind its last one, which is before e
+abbrev pub closed : Extent → (kind : ℕ) → Extent → Extent
+closed o k e = record { row = e .row; text = e .text; size = o .size + (if (eqb k 0) 1 (if (ltb (e .size) shortEnd) 3 9) + e .size); mark = e .mark }
 
 -- its mark stands in a buffer, if there is room for it
 abbrev pub MarkPut : (before : List ℕ) → (place kind body : ℕ) → (after : List ℕ) → Type 0

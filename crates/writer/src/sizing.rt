@@ -1,9 +1,8 @@
 // Sizing: the checks of all rows and the bytes that they will be written to (docs/FORMAT.md, 6.1).
 ghost use mathlib.Core.Path.{_≡_};
-ghost use mathlib.Core.List.{[], _∷_};
 ghost use Prim.Native.Nat.{_+_, _*_, _^_, _≤_, _<_};
 ghost use lib.Dec.{eqb, ltb};
-ghost use lib.ListN.{length, drop, getD};
+ghost use lib.ListN.{length, drop};
 ghost use lib.Seq.{sets};
 ghost use Rattle.standard.specs.Choose.{if};
 ghost use Rattle.standard.specs.Bytes.{be};
@@ -26,14 +25,6 @@ use crate::row::IsArrayElement;
 use standard::kind;
 use standard::kind::Style;
 use standard::refusal::Refusal;
-
-// One call takes so many levels.
-const NEST: usize = 8;
-
-// An open row is four numbers on the stack: the bytes before it, the place of its mark, how many values are due behind it, and its kind.
-const FRAME: usize = 4;
-
-const STACK: usize = 32;
 
 // What is behind values: the next row and its text, the bytes that they take, and the next mark.
 pub struct Extent {
@@ -351,55 +342,21 @@ fn open_head(kind: u64, body: usize) -> usize
     head::compound_width(body)
 }
 
-// Puts an open row onto the stack, with so many values due behind it, and goes to its first value.
-fn open(stack: &mut [usize], depth: usize, c: Extent, left: usize, kind: u64) -> Extent
-    requires { ⌜ (4 * depth + 4 ≤ length (now stack)) × (c .row + 1 < 2 ^ 64) × (c .mark + 3 < 2 ^ 64) ⌝ }
-    ensures { λ r. ⌜ (r ≡ inside c kind) × (now (stack .exit) ≡ sets (now (stack .entry)) (4 * depth) (c .size ∷ c .mark ∷ left ∷ kind ∷ [])) ⌝ }
+// Behind the last value of an open row, which is before `e`.
+fn close(marks: &mut [u8], c: Extent, kind: u64, e: Extent) -> Extent
+    requires { ⌜ c .size + 9 + e .size < 2 ^ 64 ⌝ }
+    ensures { λ r. ⌜ (r ≡ closed c kind e) × MarkPut (now (marks .entry)) (c .mark) kind (e .size) (now (marks .exit)) ⌝ }
 {
-    let k = FRAME * depth;
-    stack[k] = c.size;
-    stack[k + 1] = c.mark;
-    stack[k + 2] = left;
-    stack[k + 3] = kind as usize;
-    c.inside(kind)
-}
-
-// Behind the last value of an open row, which has so many bytes before it and its mark at that place.
-fn close(marks: &mut [u8], size: usize, mark: usize, kind: u64, c: Extent) -> Extent
-    requires { ⌜ size + 9 + c .size < 2 ^ 64 ⌝ }
-    ensures { λ r. ⌜ (r ≡ closed size kind c) × MarkPut (now (marks .entry)) mark kind (c .size) (now (marks .exit)) ⌝ }
-{
-    put_mark(marks, mark, open_mark(kind), c.size);
+    put_mark(marks, c.mark, open_mark(kind), e.size);
     Extent {
-        row: c.row,
-        text: c.text,
-        size: size + (open_head(kind, c.size) + c.size),
-        mark: c.mark,
+        row: e.row,
+        text: e.text,
+        size: c.size + (open_head(kind, e.size) + e.size),
+        mark: e.mark,
     }
 }
 
-// Takes the innermost open row from the stack, behind its last value.
-fn shut(stack: &[usize], depth: usize, marks: &mut [u8], c: Extent) -> Extent
-    requires { ⌜ (4 * depth + 4 ≤ length (now stack)) × (getD (now stack) (4 * depth) 0 + 9 + c .size < 2 ^ 64) ⌝ }
-    ensures { λ r. ⌜ (r ≡ closed (getD (now (stack .entry)) (4 * depth) 0) (getD (now (stack .entry)) (4 * depth + 3) 0) c)
-        × MarkPut (now (marks .entry)) (getD (now (stack .entry)) (4 * depth + 1) 0) (getD (now (stack .entry)) (4 * depth + 3) 0) (c .size) (now (marks .exit)) ⌝ }
-{
-    let k = FRAME * depth;
-    close(marks, stack[k], stack[k + 1], stack[k + 3] as u64, c)
-}
-
-// Are values due, or rows open.
-fn is_due(left: usize, depth: usize) -> bool
-    ensures { λ r. ⌜ r ≡ ltb 0 (left + depth) ⌝ }
-{
-    if 0 < left {
-        return true;
-    }
-    0 < depth
-}
-
-// So many values, the first of them at `start`, where so many levels are left. The rows that are open are on a stack, as far as it goes; below that
-// sizing calls itself on the child rows.
+// So many values, the first of them at `start`, where so many levels are left. Each open row is a call for its child rows.
 pub(crate) fn size_values(
     words: &[u64],
     text: &[u8],
@@ -412,42 +369,27 @@ pub(crate) fn size_values(
     ensures { λ r. ⌜ (r ≡ totalFrom any start (values (now (words .entry)) (now (text .entry)) levels any count (start .row) (start .text)))
         × Marked (now (marks .entry)) (start .mark) (now (marks .exit)) (values (now (words .entry)) (now (text .entry)) levels any count (start .row) (start .text)) ⌝ }
 {
-    let mut stack = [0usize; STACK];
-    let mut depth: usize = 0;
     let mut c = start;
     let mut left = count;
-    while is_due(left, depth) {
-        if left == 0 {
-            depth -= 1;
-            left = stack[FRAME * depth + 2];
-            c = shut(&stack, depth, marks, c);
-        } else {
-            let here = levels - depth;
-            left -= 1;
-            match take_row(words, text, c.row, c.text, here) {
-                Taken::Number(size) => c = c.past(0, size),
-                Taken::Letters(letters, size) => c = c.past(letters, size),
-                Taken::Open(kind, children) => {
-                    if depth < NEST {
-                        c = open(&mut stack, depth, c, left, kind);
-                        depth += 1;
-                        left = children;
-                    } else {
-                        let first = c.inside(kind);
-                        let below = size_values(words, text, children, here - 1, marks, first);
-                        let Sized::Fits(e) = below else {
-                            return below;
-                        };
-                        c = close(marks, c.size, c.mark, kind, e);
-                    }
-                }
-                Taken::Other => {
-                    let one = size_row(words, text, here, marks, c);
-                    let Sized::Fits(e) = one else {
-                        return one;
-                    };
-                    c = e;
-                }
+    while 0 < left {
+        left -= 1;
+        match take_row(words, text, c.row, c.text, levels) {
+            Taken::Number(size) => c = c.past(0, size),
+            Taken::Letters(letters, size) => c = c.past(letters, size),
+            Taken::Open(kind, children) => {
+                let first = c.inside(kind);
+                let below = size_values(words, text, children, levels - 1, marks, first);
+                let Sized::Fits(e) = below else {
+                    return below;
+                };
+                c = close(marks, c, kind, e);
+            }
+            Taken::Other => {
+                let one = size_row(words, text, levels, marks, c);
+                let Sized::Fits(e) = one else {
+                    return one;
+                };
+                c = e;
             }
         }
     }

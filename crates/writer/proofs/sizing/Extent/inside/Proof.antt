@@ -1,7 +1,7 @@
 -- `inside` is at the next row, with the place of its mark behind that of the open row.
 use borrow.Author.Needs.{needs}
 use native.Mathlib.Omega.{arith}
-use Rattle.writer.proofs.Walks.{mark-few}
+use Rattle.writer.proofs.Turns.{mark-few}
 use Rattle.writer.proofs.sizing.Extent.inside.Statement.{statement}
 use Rattle.writer.proofs.sizing.Extent.inside.Tie as tie
 
