@@ -11,7 +11,7 @@ use lib.Seq.{sets}
 use Rattle.standard.specs.Choose.{if}
 use Rattle.standard.specs.Answer.{Answer, got, refuse, at}
 use Rattle.standard.specs.Bytes.{be}
-use Rattle.standard.specs.Tree.{node, Trees, none, more}
+use Rattle.standard.specs.Tree.{node, Trees, none, more, count}
 use Rattle.standard.specs.Kinds.{Style, foreign, numbered, blob, lettered, listed, mapped, arrayed, describing, kinds, styleOf, isKind, plain, clean}
 use Rattle.standard.specs.Table.{most, Spot, any, first, like, allowed, ranged, letters, children, firstIn, next, All, Valid, several, tree}
 use Rattle.standard.specs.Encode.{shortEnd, payloads}
@@ -33,7 +33,7 @@ use Rattle.writer.proofs.Tabled.{allKinds, of-kind}
 use Rattle.writer.proofs.Checks.{check-good}
 use Rattle.writer.proofs.Flat.{plain-leaf}
 use Rattle.writer.proofs.Direct.{coded-long}
-use Rattle.writer.proofs.Sums.{mark-small, Entered, entered-none, entered-some, sure-next, turn-within, turn-comes, turn-sure, turn-no, comes-on, taken, stands, check-allowed, check-ranged, check-front}
+use Rattle.writer.proofs.Sums.{mark-small, Entered, entered-none, entered-some, sure-next, turn-within, turn-comes, turn-sure, turn-no, comes-self, comes-on, comes-end, comes-no, found, taken, stands, check-allowed, check-ranged, check-front}
 
 -- A row with y bytes of text in front of x
 
@@ -150,6 +150,7 @@ letters-taken l w x y z e = subst (Leafed l w x) e (leafed l w x)
 
 record OpenRow (s : Style) (k n : ℕ) (x : List ℕ) : Type 0 where
   pub sound : Sound s k n x 0
+  pub some : 0 < n
   pub full : children s n ≡ n
   pub spot : firstIn s n ≡ any
   pub marked : markWidth s n ≡ if (eqb k 0) 0 3
@@ -182,8 +183,8 @@ not-T : (b : Bool) → T (not b) → b ≡ false
 not-T true t = absurd t
 not-T false t = refl
 
-counted : (n : ℕ) → ltb 0 n ≡ true → eqb n 0 ≡ false
-counted n e = ne-eqb n 0 (λ (z : n ≡ 0). let y : 0 < n = ltb→lt 0 n (rw e tt) in omega arith)
+counted : (n : ℕ) → 0 < n → eqb n 0 ≡ false
+counted n h = ne-eqb n 0 (λ (z : n ≡ 0). omega arith)
 
 open-row : (s : Style) (k n : ℕ) (x : List ℕ) → T (named k s) → opens s k n ≡ true → OpenRow s k n x
 unfolding opens holder named isKind letters children markWidth codeWidth firstIn head
@@ -192,17 +193,17 @@ open-row (numbered s w) k n x t e = let o : _≡_ {A = ℕ} 0 1 = cc in absurd (
 open-row (blob w) k n x t e = let o : _≡_ {A = ℕ} 0 1 = cc in absurd (omega arith)
 open-row (lettered s) k n x t e = let o : _≡_ {A = ℕ} 0 1 = cc in absurd (omega arith)
 open-row (listed a s) k n x t e =
-    let z = T-true _ (and-left (ltb 0 n) (ranged (listed a s) k n) (rw e tt)) in
+    let z = ltb→lt 0 n (and-left (ltb 0 n) (ranged (listed a s) k n) (rw e tt)) in
     let r = T-true _ (and-right (ltb 0 n) (ranged (listed a s) k n) (rw e tt)) in
-    record { sound = silent _ k n x refl r refl refl; full = refl; spot = refl; marked = rw (not-T (eqb k 0) t, counted n z); headed = λ b. rw (not-T (eqb k 0) t, counted n z) (enclosed-width s (k % 256) n b) }
+    record { sound = silent _ k n x refl r refl refl; some = z; full = refl; spot = refl; marked = rw (not-T (eqb k 0) t, counted n z); headed = λ b. rw (not-T (eqb k 0) t, counted n z) (enclosed-width s (k % 256) n b) }
 open-row (mapped s) k n x t e =
-    let z = T-true _ (and-left (ltb 0 n) (ranged (mapped s) k n) (rw e tt)) in
+    let z = ltb→lt 0 n (and-left (ltb 0 n) (ranged (mapped s) k n) (rw e tt)) in
     let r = T-true _ (and-right (ltb 0 n) (ranged (mapped s) k n) (rw e tt)) in
-    record { sound = silent _ k n x refl r refl refl; full = refl; spot = refl; marked = rw (not-T (eqb k 0) t, counted n z); headed = λ b. rw (not-T (eqb k 0) t) (enclosed-width s (k % 256) n b) }
+    record { sound = silent _ k n x refl r refl refl; some = z; full = refl; spot = refl; marked = rw (not-T (eqb k 0) t, counted n z); headed = λ b. rw (not-T (eqb k 0) t) (enclosed-width s (k % 256) n b) }
 open-row (arrayed s) k n x t e = let o : _≡_ {A = ℕ} 0 1 = cc in absurd (omega arith)
 open-row describing k n x t e =
     let r = T-true _ (and-right (ltb 0 n) (ranged describing k n) (rw e tt)) in
-    record { sound = silent _ k n x refl r refl refl; full = refl; spot = refl; marked = rw (T-true (eqb k 0) t); headed = λ b. rw (T-true (eqb k 0) t) }
+    record { sound = silent _ k n x refl r refl refl; some = ltb→lt 0 n (and-left (ltb 0 n) (ranged describing k n) (rw e tt)); full = refl; spot = refl; marked = rw (T-true (eqb k 0) t); headed = λ b. rw (T-true (eqb k 0) t) }
 
 record OpenFront (l : ℕ) (w x : List ℕ) (k n : ℕ) : Type 0 where
   pub front : Front l w k n
@@ -319,6 +320,19 @@ pub head-few : (k n : ℕ) → if (eqb k 0) 1 (if (ltb n shortEnd) 3 9) ≤ 9
 head-few k n =
     if-case (λ (t : ℕ). t ≤ 9) (eqb k 0) 1 (if (ltb n shortEnd) 3 9) (λ t. omega arith) (λ t. if-case (λ (t : ℕ). t ≤ 9) (ltb n shortEnd) 3 9 (λ t. omega arith) (λ t. omega arith))
 
+-- where no level is left a row is refused
+shallow : (P : Sized → Type 0) (w x : List ℕ) (o : Extent) (b a : List ℕ) (y : Sized) → Rowed w x 0 o b a y → ((f : Refusal) → Rowed w x 0 o b a (Refused f) → P (Refused f)) → P y
+unfolding count
+shallow P w x o b a (Fits e) r k =
+    let f = found any (o .row) (o .text) (o .size) (o .mark) (values w x 0 any 1 (o .row) (o .text)) e (comes-end (r .1 1 (omega arith)) (omega arith) .0) in
+    let t = taken w x 0 any 1 (o .row) (o .text) (f .trees) (f .rest) (f .tail) (f .isGot) in
+    absurd (go (f .trees) (t .full) (t .valid))
+  where
+    go : (vs : Trees) → count vs ≡ 1 → All (λ d v. Valid 0 d v) any vs → ⊥
+    go none i h = omega arith
+    go (more v vs) i h = h .0
+shallow P w x o b a (Refused f) r k = k f r
+
 module _ (w x : List ℕ) (l : ℕ) (o : Extent) (b : List ℕ) (g : Within w x o) where
   -- a leaf of z bytes, y of them text
   module _ (y z : ℕ) (leaf-at : LeafFront l (drop (2 * (o .row)) w) (drop (o .text) x) y z) where
@@ -404,6 +418,16 @@ module _ (w x : List ℕ) (l : ℕ) (o : Extent) (b : List ℕ) (g : Within w x 
               open-within,
               λ n h. open-adds (λ d. Comes w x l any o n b any d (n - 1) b₂) (turn-comes w x l any o n b g tt h k m open-checked y b₁ open-entered e fits b₂ (rw (a, open-at .row .marked) put) same),
             )
+
+    -- where no level is left for them
+    pub open-deep : l ≡ 1 → (y : Sized) (a : List ℕ) → length a ≡ length b → Rowed w x 0 (inside o k) b a y → {o₀ : Extent} {n₀ n : ℕ} {b₀ : List ℕ} → Comes w x l any o₀ n₀ b₀ any o n b → 0 < n
+        → (y ≡ totalFrom any o₀ (values w x l any n₀ (o₀ .row) (o₀ .text))) × Marked b₀ (o₀ .mark) a (values w x l any n₀ (o₀ .row) (o₀ .text))
+    open-deep i y a s r {o₀ = o₀} {n₀ = n₀} {b₀ = b₀} p h =
+        shallow (λ z. (z ≡ totalFrom any o₀ (values w x l any n₀ (o₀ .row) (o₀ .text))) × Marked b₀ (o₀ .mark) a (values w x l any n₀ (o₀ .row) (o₀ .text))) w x (inside o k) b a y r
+        (λ f q.
+        let v = comes-no (comes-self w x 0 any (inside o k) m b) (open-at .row .some) (f .number) (f .place) a q in
+        let d : l - 1 ≡ 0 = omega arith in
+        comes-no p h (f .number) (f .place) a (open-no (Refused f) a (rw d (v .0)) (rw d (v .1)) s f refl))
 
 -- from a row to the one behind it
 pub rowed-on : {w x : List ℕ} {l : ℕ} {o₀ o : Extent} {n₀ n : ℕ} {b₀ b : List ℕ} → Comes w x l any o₀ n₀ b₀ any o n b → 0 < n → (e : Extent) (a : List ℕ) → Rowed w x l o b a (Fits e) → Within w x e × Comes w x l any o₀ n₀ b₀ any e (n - 1) a

@@ -356,7 +356,8 @@ fn close(marks: &mut [u8], c: Extent, kind: u64, e: Extent) -> Extent
     }
 }
 
-// So many values, the first of them at `start`, where so many levels are left. Each open row is a call for its child rows.
+// So many values, the first of them at `start`, where so many levels are left. For the child rows of each open row sizing calls itself, with a level less; where none
+// is left for them the first is refused at once.
 pub(crate) fn size_values(
     words: &[u64],
     text: &[u8],
@@ -378,6 +379,10 @@ pub(crate) fn size_values(
             Taken::Letters(letters, size) => c = c.past(letters, size),
             Taken::Open(kind, children) => {
                 let first = c.inside(kind);
+                if levels == 1 {
+                    let none = size_row(words, text, 0, marks, first);
+                    return none;
+                }
                 let below = size_values(words, text, children, levels - 1, marks, first);
                 let Sized::Fits(e) = below else {
                     return below;
@@ -385,7 +390,9 @@ pub(crate) fn size_values(
                 c = close(marks, c, kind, e);
             }
             Taken::Other => {
-                let one = size_row(words, text, levels, marks, c);
+                // a copy is lent, so that `c` stays in registers
+                let here = c;
+                let one = size_row(words, text, levels, marks, here);
                 let Sized::Fits(e) = one else {
                     return one;
                 };

@@ -1,7 +1,7 @@
 -- `size_values` finds of so many values what the definition says. A number, letters and any other row without children are taken in one turn; the values of an open row are
--- sized by a call of the function itself with fewer levels. Invariant: what is left from here comes to what was due at the start.
+-- sized by a call of the function itself with fewer levels, as long as there are any. Invariant: what is left from here comes to what was due at the start.
 use Prim.Native.Nat.{ℕ, _<_}
-use mathlib.Core.Path.{sym, _∙_, subst}
+use mathlib.Core.Path.{refl, sym, _∙_, subst}
 use native.Mathlib.Omega.{arith}
 use borrow.Author.Needs.{needs}
 use borrow.Fn.Kinds.{In}
@@ -9,7 +9,7 @@ use borrow.Fn.PlainCycle.{Measures, is, falls, and}
 use Rattle.standard.specs.Table.{any}
 use Rattle.writer.specs.Sizing.{Within, Comes, Rowed}
 use Rattle.writer.proofs.Sums.{comes-self, comes-end, comes-no}
-use Rattle.writer.proofs.Turns.{number-taken, letters-taken, leaf-sums, leaf-rowed, open-first, open-no, open-sums, open-rowed, rowed-on}
+use Rattle.writer.proofs.Turns.{number-taken, letters-taken, leaf-sums, leaf-rowed, taken-deep, open-first, open-no, open-sums, open-rowed, open-deep, rowed-on}
 use Rattle.writer.proofs.sizing.size_values.Reads as size-values
 use Rattle.writer.proofs.sizing.size_values.Kinds as size-values-kinds
 use Rattle.writer.proofs.sizing.+size_values.Lts-size_values as size-values-lts
@@ -44,12 +44,12 @@ claims t = (
   past-reads.Learnt,
   inside-reads.Asked,
   inside-reads.Learnt,
+  size-row-reads.Asked,
+  size-row-reads.Learnt,
   size-values-below t,
   size-values.Post,
   close-reads.Asked,
   close-reads.Learnt,
-  size-row-reads.Asked,
-  size-row-reads.Learnt,
 )
 
 pub +size-values-spec : {M : Type 1} → statement M
@@ -79,24 +79,29 @@ pub +size-values-spec : {M : Type 1} → statement M
     -- an open row
     (λ c. search needs)
     (λ c κs. let i = c .before .before .before .before .before .loop in let f = open-first _ _ _ _ (i .marks) (i .inv .0) _ _ (sym (c .before .before .before .take-row .ensures) ∙ c .before .kind .given .1) .0 in (omega (arith, f .rows, c .before .before .before .before .before .before .before .before .before .good .0 .1), omega (arith, i .inv .0 .marked, f .rows, c .before .before .before .before .before .before .before .before .before .good .0 .1)))
-    (λ c. let i = c .before .before .before .before .before .before .loop in omega (arith, open-first _ _ _ _ (i .marks) (i .inv .0) _ _ (sym (c .before .before .before .before .take-row .ensures) ∙ c .before .before .kind .given .1) .1))
-    (λ c κs. let i = c .before .before .before .before .before .before .before .loop in let f = open-first _ _ _ _ (i .marks) (i .inv .0) _ _ (sym (c .before .before .before .before .before .take-row .ensures) ∙ c .before .before .before .kind .given .1) in (omega (arith, f .1, c .before .before .before .before .before .before .before .before .before .before .before .pre .0), rw (c .before .inside .ensures) (f .0)))
+    -- with no level for its values
+    (λ c κs. let i = c .before .before .before .before .before .before .before .before .loop in (rw (c .before .before .inside .ensures) (open-first _ _ _ _ (i .marks) (i .inv .0) _ _ (sym (c .before .before .before .before .before .before .take-row .ensures) ∙ c .before .before .before .before .kind .given .1) .0), sym (taken-deep 0 _ _ refl)))
+    (λ c. c .before .before .size-row .kept .1 .1 .1 .0 ∙ c .before .before .before .before .before .before .before .before .before .before .before .loop .inv .1 .kept)
+    (λ c. let i = c .before .before .before .before .before .before .before .before .before .before .before .loop in let s = c .before .before .size-row in open-deep _ _ _ _ (i .marks) (i .inv .0) _ _ (sym (c .before .before .before .before .before .before .before .before .before .take-row .ensures) ∙ c .before .before .before .before .before .before .before .kind .given .1) (c .before .before .before .before .if1 .taken) _ _ (s .kept .1 .1 .1 .0) (rw (c .before .before .before .before .before .inside .ensures) at (s .ensures)) (i .inv .1) (c .before .before .before .before .before .before .before .before .before .before .loop-test .taken))
+    -- or with some
+    (λ c. let i = c .before .before .before .before .before .before .before .loop in omega (arith, open-first _ _ _ _ (i .marks) (i .inv .0) _ _ (sym (c .before .before .before .before .before .take-row .ensures) ∙ c .before .before .before .kind .given .1) .1))
+    (λ c κs. let i = c .before .before .before .before .before .before .before .before .loop in let f = open-first _ _ _ _ (i .marks) (i .inv .0) _ _ (sym (c .before .before .before .before .before .before .take-row .ensures) ∙ c .before .before .before .before .kind .given .1) in (omega (arith, f .1, c .before .before .before .before .before .before .before .before .before .before .before .before .pre .0), rw (c .before .before .inside .ensures) (f .0)))
     (λ c. search needs)
     (λ c. search needs)
-    (λ c. c .before .before .before .before .size-values .kept .1 .1 .1 .1 .0 ∙ c .before .before .before .before .before .before .before .before .before .before .before .before .loop .inv .1 .kept)
-    (λ c. let i = c .before .before .before .before .before .before .before .before .before .before .before .before .loop in let s = c .before .before .before .before .size-values in let y = comes-no (i .inv .1) (c .before .before .before .before .before .before .before .before .before .before .before .loop-test .taken) _ _ _ (open-no _ _ _ _ (i .marks) (i .inv .0) _ _ (sym (c .before .before .before .before .before .before .before .before .before .before .take-row .ensures) ∙ c .before .before .before .before .before .before .before .before .kind .given .1) _ _ (rw (c .before .before .before .before .before .before .inside .ensures) at (s .ensures .0)) (rw (c .before .before .before .before .before .before .inside .ensures) at (s .ensures .1)) (s .kept .1 .1 .1 .1 .0) _ (c .enum-told .given .1)) in (c .enum-told .given .1 ∙ y .0, y .1))
-    (λ c κs. let i = c .before .before .before .before .before .before .before .before .before .before .before .before .before .before .loop in let s = c .before .before .before .before .before .before .size-values in open-sums _ _ _ _ (i .marks) (i .inv .0) _ _ (sym (c .before .before .before .before .before .before .before .before .before .before .before .before .take-row .ensures) ∙ c .before .before .before .before .before .before .before .before .before .before .kind .given .1) _ _ (rw (c .before .before .before .before .before .before .before .before .inside .ensures) at (s .ensures .0)) (rw (c .before .before .before .before .before .before .before .before .inside .ensures) at (s .ensures .1)) (s .kept .1 .1 .1 .1 .0) _ (c .before .before .below .given .1) (c .before .before .before .before .before .before .before .before .before .before .before .before .before .before .before .before .before .before .good .0 .1) (c .before .before .before .before .before .before .before .before .before .before .before .before .before .before .before .before .before .before .good .1 .0 .1))
-    (λ c. omega (arith, c .before .before .before .before .before .before .before .before .before .before .before .before .before .before .before .before .loop-test .taken))
-    (λ c. let i = c .before .before .before .before .before .before .before .before .before .before .before .before .before .before .before .before .before .loop in let s = c .before .before .before .before .before .before .before .before .before .size-values in rw (c .before .before .close .ensures .0) (rowed-on (i .inv .1) (c .before .before .before .before .before .before .before .before .before .before .before .before .before .before .before .before .loop-test .taken) _ _ (open-rowed _ _ _ _ (i .marks) (i .inv .0) _ _ (sym (c .before .before .before .before .before .before .before .before .before .before .before .before .before .before .before .take-row .ensures) ∙ c .before .before .before .before .before .before .before .before .before .before .before .before .before .kind .given .1) _ _ (rw (c .before .before .before .before .before .before .before .before .before .before .before .inside .ensures) at (s .ensures .0)) (rw (c .before .before .before .before .before .before .before .before .before .before .before .inside .ensures) at (s .ensures .1)) (s .kept .1 .1 .1 .1 .0) _ (c .before .before .before .before .before .below .given .1) _ (c .before .before .close .ensures .1) (c .before .before .close .kept .0))))
+    (λ c. c .before .before .before .before .size-values .kept .1 .1 .1 .1 .0 ∙ c .before .before .before .before .before .before .before .before .before .before .before .before .before .loop .inv .1 .kept)
+    (λ c. let i = c .before .before .before .before .before .before .before .before .before .before .before .before .before .loop in let s = c .before .before .before .before .size-values in let y = comes-no (i .inv .1) (c .before .before .before .before .before .before .before .before .before .before .before .before .loop-test .taken) _ _ _ (open-no _ _ _ _ (i .marks) (i .inv .0) _ _ (sym (c .before .before .before .before .before .before .before .before .before .before .before .take-row .ensures) ∙ c .before .before .before .before .before .before .before .before .before .kind .given .1) _ _ (rw (c .before .before .before .before .before .before .before .inside .ensures) at (s .ensures .0)) (rw (c .before .before .before .before .before .before .before .inside .ensures) at (s .ensures .1)) (s .kept .1 .1 .1 .1 .0) _ (c .enum-told .given .1)) in (c .enum-told .given .1 ∙ y .0, y .1))
+    (λ c κs. let i = c .before .before .before .before .before .before .before .before .before .before .before .before .before .before .before .loop in let s = c .before .before .before .before .before .before .size-values in open-sums _ _ _ _ (i .marks) (i .inv .0) _ _ (sym (c .before .before .before .before .before .before .before .before .before .before .before .before .before .take-row .ensures) ∙ c .before .before .before .before .before .before .before .before .before .before .before .kind .given .1) _ _ (rw (c .before .before .before .before .before .before .before .before .before .inside .ensures) at (s .ensures .0)) (rw (c .before .before .before .before .before .before .before .before .before .inside .ensures) at (s .ensures .1)) (s .kept .1 .1 .1 .1 .0) _ (c .before .before .below .given .1) (c .before .before .before .before .before .before .before .before .before .before .before .before .before .before .before .before .before .before .before .good .0 .1) (c .before .before .before .before .before .before .before .before .before .before .before .before .before .before .before .before .before .before .before .good .1 .0 .1))
+    (λ c. omega (arith, c .before .before .before .before .before .before .before .before .before .before .before .before .before .before .before .before .before .loop-test .taken))
+    (λ c. let i = c .before .before .before .before .before .before .before .before .before .before .before .before .before .before .before .before .before .before .loop in let s = c .before .before .before .before .before .before .before .before .before .size-values in rw (c .before .before .close .ensures .0) (rowed-on (i .inv .1) (c .before .before .before .before .before .before .before .before .before .before .before .before .before .before .before .before .before .loop-test .taken) _ _ (open-rowed _ _ _ _ (i .marks) (i .inv .0) _ _ (sym (c .before .before .before .before .before .before .before .before .before .before .before .before .before .before .before .before .take-row .ensures) ∙ c .before .before .before .before .before .before .before .before .before .before .before .before .before .before .kind .given .1) _ _ (rw (c .before .before .before .before .before .before .before .before .before .before .before .before .inside .ensures) at (s .ensures .0)) (rw (c .before .before .before .before .before .before .before .before .before .before .before .before .inside .ensures) at (s .ensures .1)) (s .kept .1 .1 .1 .1 .0) _ (c .before .before .before .before .before .below .given .1) _ (c .before .before .close .ensures .1) (c .before .before .close .kept .0))))
     -- another row
     (λ c. search needs)
     (λ c κs. (c .before .before .before .before .before .loop .inv .0, sym (c .before .before .before .take-row .ensures) ∙ c .before .enum-told2 .given .1))
     (λ c. search needs)
     (λ c. search needs)
-    (λ c. c .before .before .before .before .size-row .kept .1 .1 .1 .0 ∙ c .before .before .before .before .before .before .before .before .before .before .loop .inv .1 .kept)
-    (λ c. let i = c .before .before .before .before .before .before .before .before .before .before .loop in let a = c .before .before .before .before .before .before .before .before .before .before .before .before .before .before .args in let y = comes-no (i .inv .1) (c .before .before .before .before .before .before .before .before .before .loop-test .taken) _ _ _ (subst (Rowed (a .words .now) (a .text .now) (a .levels) (i .c) (i .marks) _) (c .enum-told3 .given .1) (c .before .before .before .before .size-row .ensures)) in (c .enum-told3 .given .1 ∙ y .0, y .1))
+    (λ c. c .before .before .before .before .size-row2 .kept .1 .1 .1 .0 ∙ c .before .before .before .before .before .before .before .before .before .before .loop .inv .1 .kept)
+    (λ c. let i = c .before .before .before .before .before .before .before .before .before .before .loop in let a = c .before .before .before .before .before .before .before .before .before .before .before .before .before .before .args in let y = comes-no (i .inv .1) (c .before .before .before .before .before .before .before .before .before .loop-test .taken) _ _ _ (subst (Rowed (a .words .now) (a .text .now) (a .levels) (i .c) (i .marks) _) (c .enum-told3 .given .1) (c .before .before .before .before .size-row2 .ensures)) in (c .enum-told3 .given .1 ∙ y .0, y .1))
     (λ c. omega (arith, c .before .before .before .before .before .before .before .before .before .before .loop-test .taken))
-    (λ c. let i = c .before .before .before .before .before .before .before .before .before .before .before .loop in let a = c .before .before .before .before .before .before .before .before .before .before .before .before .before .before .before .args in rowed-on (i .inv .1) (c .before .before .before .before .before .before .before .before .before .before .loop-test .taken) _ _ (subst (Rowed (a .words .now) (a .text .now) (a .levels) (i .c) (i .marks) _) (c .before .one .given .1) (c .before .before .before .before .before .size-row .ensures)))
+    (λ c. let i = c .before .before .before .before .before .before .before .before .before .before .before .loop in let a = c .before .before .before .before .before .before .before .before .before .before .before .before .before .before .before .args in rowed-on (i .inv .1) (c .before .before .before .before .before .before .before .before .before .before .loop-test .taken) _ _ (subst (Rowed (a .words .now) (a .text .now) (a .levels) (i .c) (i .marks) _) (c .before .one .given .1) (c .before .before .before .before .before .size-row2 .ensures)))
     -- nothing is left
     (λ c. c .before .loop .inv .1 .kept)
     (λ c. comes-end (c .before .loop .inv .1) (omega (arith, c .loop-test .left))))
