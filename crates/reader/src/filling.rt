@@ -185,10 +185,10 @@ fn row_behind(bytes: &[u8], at: usize, code: u8) -> Row
         format_code::BINARY_8 => sized_row(bytes, at, 0xb0, 1),
         format_code::STRING_8 => sized_row(bytes, at, 0xb1, 1),
         format_code::SYMBOL_8 => sized_row(bytes, at, 0xb3, 1),
-        format_code::LIST_8 => compound_row(bytes, at, 0xd0, 1),
-        format_code::MAP_8 => compound_row(bytes, at, 0xd1, 1),
-        format_code::LIST_32 => compound_row(bytes, at, 0xd0, 4),
-        format_code::MAP_32 => compound_row(bytes, at, 0xd1, 4),
+        format_code::LIST_8 => compound_row(bytes, at, 0xd0, format_code::Compound8::COUNT_WIDTH),
+        format_code::MAP_8 => compound_row(bytes, at, 0xd1, format_code::Compound8::COUNT_WIDTH),
+        format_code::LIST_32 => compound_row(bytes, at, 0xd0, format_code::Compound32::COUNT_WIDTH),
+        format_code::MAP_32 => compound_row(bytes, at, 0xd1, format_code::Compound32::COUNT_WIDTH),
         _ => entry_row(bytes, at, code),
     }
 }

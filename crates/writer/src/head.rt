@@ -101,12 +101,11 @@ fn write_compound(short: u8, code: u8, count: u64, body: usize) -> Head
     requires { ⌜ body + 4 < 2 ^ 64 ⌝ }
     ensures { λ r. ⌜ headIs r ≡ enclosure short code count body ⌝ }
 {
-    let size = body as u64;
-    if size < SHORT_END {
+    if (body as u64) < SHORT_END {
         return Head {
             code: short,
             width: Compound8::COUNT_WIDTH,
-            number: 1 + size,
+            number: (Compound8::COUNT_WIDTH + body) as u64,
             count_width: Compound8::COUNT_WIDTH,
             count,
         };
@@ -114,7 +113,7 @@ fn write_compound(short: u8, code: u8, count: u64, body: usize) -> Head
     Head {
         code,
         width: Compound32::COUNT_WIDTH,
-        number: 4 + size,
+        number: (Compound32::COUNT_WIDTH + body) as u64,
         count_width: Compound32::COUNT_WIDTH,
         count,
     }
