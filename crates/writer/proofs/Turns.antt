@@ -9,11 +9,11 @@ use lib.Dec.{T, eqb, eqb→eq, leb, leb→le, ltb, ltb→lt}
 use lib.ListN.{length, take, drop, length-append, length-drop}
 use lib.Seq.{sets}
 use Rattle.standard.specs.Choose.{if}
-use Rattle.standard.specs.Answer.{Answer, got, refuse, at}
+use Rattle.standard.specs.Answer.{Answer, got, refuse}
 use Rattle.standard.specs.Bytes.{be}
 use Rattle.standard.specs.Tree.{node, Trees, none, more, count}
 use Rattle.standard.specs.Kinds.{Style, foreign, numbered, blob, lettered, listed, mapped, arrayed, describing, kinds, styleOf, isKind, plain, clean}
-use Rattle.standard.specs.Table.{most, Spot, any, first, like, allowed, ranged, letters, children, firstIn, next, All, Valid, several, tree}
+use Rattle.standard.specs.Table.{most, Spot, any, first, like, allowed, ranged, letters, children, firstIn, next, All, Valid, several}
 use Rattle.standard.specs.Encode.{shortEnd, payloads}
 use Rattle.laws.specs.Numbers.{length-be}
 use Rattle.standard.specs.Facts.{if-case, T-true, and-left, and-right, clean-nil}
