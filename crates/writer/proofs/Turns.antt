@@ -408,8 +408,8 @@ module _ (w x : List ℕ) (l : ℕ) (o : Extent) (b : List ℕ) (g : Within w x 
         open-within : Within w x (closed o k e)
         open-within = open-adds (Within w x) (turn-within w x l any o 1 b g tt (omega arith) k m open-checked y b₁ open-entered e fits)
 
-        pub open-sums : length w * 8 < 2 ^ 63 → length x * 1 < 2 ^ 63 → o .size + 9 + e .size < 2 ^ 64
-        open-sums p q = let v = open-within in omega (arith, v .rows, v .letters, v .small)
+        pub open-sums : length w * 8 < 2 ^ 63 → length x * 1 < 2 ^ 63 → (o .size + 9 + e .size < 2 ^ 64) × (o .mark + 3 < 2 ^ 64)
+        open-sums p q = let v = open-within in (omega (arith, v .rows, v .letters, v .small), omega (arith, g .marked, g .rows))
 
         pub open-rowed : (b₂ : List ℕ) → MarkPut b₁ (o .mark) k (e .size) b₂ → length b₂ ≡ length b₁ → Rowed w x l o b b₂ (Fits (closed o k e))
         unfolding next

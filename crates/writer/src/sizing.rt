@@ -220,16 +220,13 @@ fn code_width(style: Style, number: u64) -> usize
 
 // Stores a mark where there is room for it.
 fn put_mark(marks: &mut [u8], at: usize, width: usize, body: usize)
-    requires { ⌜ ((width ≡ 0 → ⊥) → width ≡ 3) ⌝ }
+    requires { ⌜ ((width ≡ 0 → ⊥) → width ≡ 3) × (at + 3 < 2 ^ 64) ⌝ }
     ensures { λ _. ⌜ (at + width ≤ length (now (marks .entry)) → now (marks .exit) ≡ sets (now (marks .entry)) at (be width body)) ⌝ }
 {
     if width == 0 {
         return;
     }
-    if marks.len() < filling::MARK_WIDTH {
-        return;
-    }
-    if at <= marks.len() - filling::MARK_WIDTH {
+    if at + filling::MARK_WIDTH <= marks.len() {
         put::put_three(marks, at, body as u64);
     }
 }
@@ -344,7 +341,7 @@ fn open_head(kind: u64, body: usize) -> usize
 
 // Behind the last value of an open row, which is before `e`.
 fn close(marks: &mut [u8], c: Extent, kind: u64, e: Extent) -> Extent
-    requires { ⌜ c .size + 9 + e .size < 2 ^ 64 ⌝ }
+    requires { ⌜ (c .size + 9 + e .size < 2 ^ 64) × (c .mark + 3 < 2 ^ 64) ⌝ }
     ensures { λ r. ⌜ (r ≡ closed c kind e) × MarkPut (now (marks .entry)) (c .mark) kind (e .size) (now (marks .exit)) ⌝ }
 {
     put_mark(marks, c.mark, open_mark(kind), e.size);

@@ -10,9 +10,9 @@ close-spec =
     tie.close
     (tie.spec
     (λ c κs. search needs)
-    (λ c κs. mark-three (c .before .before .before .args .kind) (c .open-mark .result) (c .open-mark .ensures))
+    (λ c κs. (mark-three (c .before .before .before .args .kind) (c .open-mark .result) (c .open-mark .ensures), c .before .before .before .pre .1))
     (λ c κs. search needs)
-    (λ c. omega (arith, head-few (c .before .before .before .before .before .before .before .before .args .kind) (c .before .before .before .before .before .before .before .before .args .e .size), c .before .open-head .ensures, c .before .before .before .before .before .before .before .before .pre))
-    (λ c. omega (arith, head-few (c .before .before .before .before .before .before .before .before .before .args .kind) (c .before .before .before .before .before .before .before .before .before .args .e .size), c .before .before .open-head .ensures, c .before .before .before .before .before .before .before .before .before .pre))
+    (λ c. omega (arith, head-few (c .before .before .before .before .before .before .before .before .args .kind) (c .before .before .before .before .before .before .before .before .args .e .size), c .before .open-head .ensures, c .before .before .before .before .before .before .before .before .pre .0))
+    (λ c. omega (arith, head-few (c .before .before .before .before .before .before .before .before .before .args .kind) (c .before .before .before .before .before .before .before .before .before .args .e .size), c .before .before .open-head .ensures, c .before .before .before .before .before .before .before .before .before .pre .0))
     (λ c. search needs)
     (λ c. (rw (c .before .before .open-head .ensures), rw (c .before .before .before .before .before .before .open-mark .ensures) at (c .before .before .before .before .before .put-mark .ensures))))

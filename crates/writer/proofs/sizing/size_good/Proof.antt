@@ -47,7 +47,7 @@ size-good-spec =
     (λ c. rw (c .enum-told .given .1) (other-no (c .before .before .before .before .before .before .before .before .before .before .before .before .args .words .now) (c .before .before .before .before .before .before .before .before .before .before .before .before .args .text .now) (c .before .before .before .before .before .before .before .before .before .before .before .before .args .levels) (c .before .before .before .before .before .before .before .before .before .before .before .before .args .c) (c .before .before .before .before .before .before .before .before .before .before .before .before .args .marks .now) (c .before .before .before .before .before .before .before .before .before .before .before .before .pre .0) (c .before .before .before .before .before .before .before .before .before .before .before .before .args .kind) (c .before .before .before .before .before .before .before .before .before .before .before .before .args .number) (c .before .before .before .before .before .before .before .before .before .before .before .before .pre .3) (c .before .before .before .before .before .before .before .before .before .before .before .before .pre .2) (styleIs (c .before .before .before .before .before .before .before .before .before .before .before .before .args .style)) (c .before .before .before .before .before .before .before .before .before .before .before .before .pre .1) _ _ _ (c .before .before .before .before .before .before .before .before .letters .ensures) (c .before .before .before .before .before .before .before .elements-of .ensures) (c .before .before .before .before .before .before .mark-width .ensures) _ (c .before .before .size-items .ensures) _ (c .enum-told .given .1)))
     (λ c κs. search needs)
     (λ c. omega (arith, ended (c .before) .small, ended (c .before) .rows, ended (c .before) .letters, c .before .before .before .before .before .before .before .before .before .before .before .before .before .before .before .good .0 .1, c .before .before .before .before .before .before .before .before .before .before .before .before .before .before .before .good .1 .0 .1))
-    (λ c κs. rw (c .before .before .before .before .before .before .before .before .before .before .mark-width .ensures) (mark-of (styleIs (c .before .before .before .before .before .before .before .before .before .before .before .before .before .before .before .before .args .style)) 0 (c .before .before .before .before .before .before .before .before .before .before .before .before .before .before .before .before .args .number) 0 .0))
+    (λ c κs. (rw (c .before .before .before .before .before .before .before .before .before .before .mark-width .ensures) (mark-of (styleIs (c .before .before .before .before .before .before .before .before .before .before .before .before .before .before .before .before .args .style)) 0 (c .before .before .before .before .before .before .before .before .before .before .before .before .before .before .before .before .args .number) 0 .0), omega (arith, c .before .before .before .before .before .before .before .before .before .before .before .before .before .before .before .before .pre .0 .marked, c .before .before .before .before .before .before .before .before .before .before .before .before .before .before .before .before .pre .0 .rows, c .before .before .before .before .before .before .before .before .before .before .before .before .before .before .before .before .good .0 .1)))
     (λ c κs. c .before .before .before .before .before .before .before .before .before .before .before .before .before .before .before .before .before .before .before .pre .1)
     (λ c. omega (arith, ended (c .before .before .before .before .before .before) .small, ended (c .before .before .before .before .before .before) .rows, ended (c .before .before .before .before .before .before) .letters, c .before .before .before .before .before .before .before .before .before .before .before .before .before .before .before .before .before .before .before .before .good .0 .1, c .before .before .before .before .before .before .before .before .before .before .before .before .before .before .before .before .before .before .before .before .good .1 .0 .1, rw (c .before .before .before .before .before .before .before .before .before .before .before .before .before .before .before .before .before .before .before .before .pre .1) at (c .head-width .ensures)))
     (λ c. omega (arith, ended (c .before .before .before .before .before .before) .small, ended (c .before .before .before .before .before .before) .rows, ended (c .before .before .before .before .before .before) .letters, c .before .before .before .before .before .before .before .before .before .before .before .before .before .before .before .before .before .before .before .before .good .0 .1, c .before .before .before .before .before .before .before .before .before .before .before .before .before .before .before .before .before .before .before .before .good .1 .0 .1, rw (c .before .before .before .before .before .before .before .before .before .before .before .before .before .before .before .before .before .before .before .before .pre .1) at (c .head-width .ensures)))
