@@ -377,6 +377,7 @@ pub(crate) fn size_values(
             Taken::Open(kind, children) => {
                 let first = c.inside(kind);
                 if levels == 1 {
+                    // named: handed on at once it would make every other answer a copy
                     let none = size_row(words, text, 0, marks, first);
                     return none;
                 }
