@@ -4,7 +4,7 @@ use Prim.Native.Nat.{ℕ, zero, suc, _+_, _≤_, _<_}
 use mathlib.Core.Path.{_≡_, refl, sym, ap, subst, _∙_}
 use mathlib.Core.List.{List, [], _∷_, _++_, append-assoc, append-nil}
 use mathlib.Core.Logic.{_⊎_, inl, inr}
-use mathlib.Core.Bool.{Bool, true, false, not, _&&_}
+use mathlib.Core.Bool.{Bool, true, false, _&&_}
 use native.Mathlib.Nat.{add-zero, zero-add, add-suc, suc-add, add-assoc}
 use native.Mathlib.Omega.{arith}
 use borrow.Author.Tests.{le-leb, ne-eqb, eqb-true, eqb-false}
@@ -12,7 +12,7 @@ use lib.Dec.{T, eqb, ltb, ltb→lt, leb, leb→le}
 use lib.ListN.{length, drop, length-append}
 use Rattle.standard.specs.Choose.{if}
 use Rattle.standard.specs.Utf8.{In, Utf8Char, utf8-1, utf8-2, utf8-3-e0, utf8-3-e1, utf8-3-ed, utf8-3-ee, utf8-4-f0, utf8-4-f1, utf8-4-f4, AsciiChar, ascii-1, Run, stop, char, FirstFault, GoodText, string, symbol, other}
-use Rattle.standard.specs.Text.{Range, from_to_, within, tail, Sequence, sequence, utf8, ascii, Lead, stray, then, leadIn, Fault, flawless, fault, isFlawless, faultDue, faultIn}
+use Rattle.standard.specs.Text.{Range, from_to_, within, tail, Sequence, utf8, ascii, Lead, stray, then, leadIn, Fault, flawless, fault, isFlawless, faultDue, faultIn}
 use Rattle.standard.specs.Kinds.{flaw, clean}
 use Rattle.standard.specs.Facts.{T-true, and-left, and-right, Past, past, here, none-due}
 

@@ -9,7 +9,7 @@ use denote.Ref.{now}
 use Rattle.standard.specs.Outcomes as outcome
 use Rattle.standard.specs.Outcomes.{levelMost, end, part, step}
 use Rattle.laws.specs.ShutOut as out
-use Rattle.laws.specs.ShutOut.{Lent, Reader, Reads, Measures, Measurer, Steps, GivesOneTable, MakesUp, MakesUpReading, DoneAtOnce, Repeats, two-nulls, second-step}
+use Rattle.laws.specs.ShutOut.{Lent, Reader, Reads, GivesOneTable, MakesUp, MakesUpReading, DoneAtOnce, Repeats, two-nulls, second-step}
 use Rattle.reader.specs.InCode.{measuredIs, stepIs, steppedIs}
 use Rattle.reader.specs.Walking.{NextOf}
 use Rattle.reader.specs.declared.measuring.Measured.{Measured}
