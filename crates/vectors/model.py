@@ -22,7 +22,7 @@ BLOBS = (0x94, 0x98)                                                # number 0, 
 TEXTS = {0xb0: 0xa0, STRING: 0xa1, SYMBOL: 0xa3}                    # with the code of the short form
 COMPOUNDS = {LIST: 0xc0, MAP: 0xc1, ARRAY: 0xe0}
 KINDS = {DESCRIBED, *WIDTHS, *BLOBS, *TEXTS, *COMPOUNDS}
-ELEMENTS = KINDS - {NULL, LIST, MAP, ARRAY, DESCRIBED}              # 2.6
+ELEMENTS = KINDS - {NULL, DESCRIBED}                                # 2.6
 
 # 4.6: the bytes that may stand first, and those that may then stand second; all further ones are 80 to bf
 SEQUENCES = [
@@ -107,24 +107,30 @@ class Table:
         kind, number, text = self.take(level, None)
         if kind == DESCRIBED:
             return b'\0' + self.value(level + 1) + self.value(level + 1)
-        if kind in (LIST, MAP):
-            return enclosed(kind, number, b''.join([self.value(level + 1) for _ in range(number)]))
-        if kind == ARRAY:
-            return enclosed(kind, number, self.elements(level + 1, number))
+        if kind in COMPOUNDS:
+            return enclosed(kind, number, self.body(kind, number, level + 1))
         if kind in TEXTS:
             short = number <= 254
             return bytes([TEXTS[kind] if short else kind]) + number.to_bytes(1 if short else 4, 'big') + text
         return written_number(kind, number) + text
 
-    def elements(self, level, count):
-        """An array's body: the element code, then payloads of full width (3.6)."""
+    def body(self, kind, count, level):
+        """The body of a list, map or array: values (3.5), or the element code and then payloads (3.6)."""
+        if kind != ARRAY:
+            return b''.join([self.value(level) for _ in range(count)])
         body, allowed = [], ELEMENTS
         for _ in range(count):
-            kind, number, text = self.take(level, allowed)
-            allowed = {kind}
-            width = 4 if kind in TEXTS else WIDTHS.get(kind, 0)
-            body.append(number.to_bytes(width, 'big') + text)
-        return bytes([kind]) + b''.join(body) if count else b''
+            element, number, text = self.take(level, allowed)
+            allowed = {element}
+            body.append(self.payload(element, number, text, level))
+        return bytes([element]) + b''.join(body) if count else b''
+
+    def payload(self, kind, number, text, level):
+        """What an element is written to behind the element code: always the full width (3.6)."""
+        if kind in COMPOUNDS:
+            return wide_fields(number, self.body(kind, number, level + 1))
+        width = 4 if kind in TEXTS else WIDTHS.get(kind, 0)
+        return number.to_bytes(width, 'big') + text
 
 
 def written_number(kind, number):
@@ -149,7 +155,11 @@ def enclosed(kind, count, body):
         return b'\x45'
     if len(body) <= 254:
         return bytes([COMPOUNDS[kind], len(body) + 1, count]) + body
-    return bytes([kind]) + (len(body) + 4).to_bytes(4, 'big') + count.to_bytes(4, 'big') + body
+    return bytes([kind]) + wide_fields(count, body)
+
+
+def wide_fields(count, body):
+    return (len(body) + 4).to_bytes(4, 'big') + count.to_bytes(4, 'big') + body
 
 
 def encode(words, text):

@@ -7,11 +7,11 @@ import sys
 
 sys.dont_write_bytecode = True
 from form import bytes_field, store, words_field, words_of
-from model import BLOBS, COMPOUNDS, ELEMENTS, KINDS, MOST, NULL, Refused, TEXTS, WIDTHS, encode, write
+from model import BLOBS, COMPOUNDS, ELEMENTS, KINDS, LEVELS, MOST, NULL, Refused, TEXTS, WIDTHS, encode, write
 
 REFUSED_ROOM = 16       # bytes of output for a table that is refused
 EDGES = sorted(n + d for n in (1, 2 ** 7, 2 ** 8, 2 ** 15, 2 ** 16, 2 ** 31, 2 ** 32, 2 ** 63) for d in (-1, 0)) + [2 ** 64 - 1]
-PLAIN = sorted(ELEMENTS)
+SCALARS = sorted(ELEMENTS - COMPOUNDS.keys())
 PARENTS = {0x00: '00:2,40:0,40:0', 0xd0: 'd0:1,40:0', 0xd1: 'd1:2,40:0,40:0', 0xf0: 'f0:1,50:0'}
 
 
@@ -38,7 +38,12 @@ def good(kind):
 
 
 def parent(kind, count, child):
-    return f'{kind}:{count},{child}*{count}' if count else f'{kind}:0'
+    return ','.join([f'{kind}:{count}', *[child] * count])
+
+
+def long_parent(kind, count, child):
+    """The same as a run, where the child is one row."""
+    return f'{kind}:{count},{child}*{count}'
 
 
 def worked():
@@ -51,10 +56,18 @@ def worked():
     yield case('f0:1,b0:250', b'a' * 250)
 
 
+def worked_nested():
+    """FORMAT.md, section 10: arrays of lists, maps and arrays."""
+    yield from map(case, ['f0:2,d0:1,70:1,d0:2,70:2,70:0', 'f0:3,d0:0,d0:1,40:0,d0:0', 'f0:2,f0:1,50:5,f0:2,56:1,56:0', 'f0:2,f0:0*2', 'f0:1,d0:1,d0:1,40:0',
+                          'f0:1*31,f0:0', 'f0:1*32,f0:0'])
+    yield case('f0:2,d1:2,b3:1,70:2,d1:0', b'v')
+
+
 def example():
     """The order of examples/order.amqp."""
-    yield case('00:2,b3:19,d0:6,80:4711,83:1763164800000,b3:9,b1:5,f0:3,b1:5*2,b1:2,d1:4,b3:4,70:2,b3:5,70:1',
-               'afsungar:order:listear-shellØ1.2Ø1.2Ø1.3M4leftright'.encode())
+    yield case('00:2,b3:19,d0:7,80:4711,83:1763164800000,b3:9,b1:5,f0:3,b1:5*2,b1:2,d1:4,b3:4,70:2,b3:5,70:1,'
+               'd1:4,b3:4,f0:2,d0:3,b1:5,71:35,71:4294967284,d0:3,b1:5,71:48,71:7,b3:5,f0:1,d0:3,b1:5,71:4294967261,71:4294967284',
+               'afsungar:order:listear-shellØ1.2Ø1.2Ø1.3M4leftrightleftØ1.2Ø1.3rightØ1.2'.encode())
 
 
 def rows_amiss():
@@ -92,19 +105,26 @@ def elements_unfit():
         yield case(f'f0:1,{rows}', text)
         yield case(f'f0:2,50:1,{rows}', text)
         yield case(f'f0:2,{rows},50:1', text)
-    for first, second in zip(PLAIN, PLAIN[1:]):
+    members = sorted(ELEMENTS)
+    for first, second in zip(members, members[1:]):
         (one, text), (other, more) = good(first), good(second)
         yield case(f'f0:2,{one},{other}', text + more)
-        yield case(f'f0:3,{other}*2,{one}', more * 2 + text)
-    yield from map(case, ['f0:1,d0:0', 'f0:1,d1:0', 'f0:1,f0:0', 'f0:2,40:0*2', 'd0:2,f0:1,50:1,60:1', 'f0:1,00:3', 'f0:1,d1:1'])
+        yield case(f'f0:3,{other},{other},{one}', more * 2 + text)
+    for kind in ('d0', 'd1', 'f0'):
+        for other in ('40:0', '00:2,40:0,40:0', '50:1', 'd0:0', 'd1:0', 'f0:0'):
+            if not other.startswith(kind):
+                yield case(f'd0:2,40:0,f0:2,{kind}:0,{other}')
+    yield from map(case, ['f0:2,40:0*2', 'd0:2,f0:1,50:1,60:1', 'f0:1,00:3', 'f0:1,40:1', 'f0:1,00:2,40:1', 'f0:1,f0:1,40:0', 'f0:2,f0:0,f0:1,40:0',
+                          'f0:1,f0:1,00:2,40:0*2', 'f0:1,d0:1,f0:1,40:0', 'f0:1,d1:2,40:0,f0:2,50:1,51:1', 'f0:1,f0:2,d0:0,d1:0', 'f0:1,f0:1,f0:2,50:1,60:1',
+                          'f0:1,d0:2,00:2,40:0*2,f0:1,00:2,40:0*2', 'f0:2,d0:1,f0:2,50:1,d0:0,d0:0'])
 
 
 def elements():
-    for kind in PLAIN:
+    for kind in sorted(ELEMENTS):
         rows, text = good(kind)
         for count in (1, 2, 3):
             yield case(parent('f0', count, rows), text * count)
-    for kind in sorted(ELEMENTS & WIDTHS.keys()):
+    for kind in [kind for kind in SCALARS if kind in WIDTHS]:
         for number in EDGES:
             yield case(f'f0:2,{kind:02x}:1,{kind:02x}:{number}')
     for kind in TEXTS:
@@ -180,11 +200,98 @@ def bodies():
     for count in (31, 32, 63, 64):
         yield case(parent('f0', count, '80:1'))
         yield case(parent('f0', count, '70:1'))
-    # the writer keeps the sizes of up to 64 compounds beside the output
     for count in (1, 62, 63, 64, 65, 66):
-        yield case(f'd0:{count}' + ',d0:1,40:0' * count)
-        yield case(f'd0:{count}' + ',f0:1,50:1' * count, b'', 1000)
+        yield case(parent('d0', count, 'd0:1,40:0'))
+        yield case(parent('d0', count, 'f0:1,50:1'), b'', 1000)
     yield case('d1:4,40:0,f0:2,50:1,50:2,b3:1,d0:0', b'k')
+
+
+# Lists, maps and arrays as elements: what each may hold, with its text.
+CONTENTS = {
+    'd0': [('d0:0', b''), ('d0:1,40:0', b''), ('d0:2,70:1,b1:2', 'Ø'.encode()), ('d0:1,d0:0', b''), ('d0:1,d0:1,40:0', b''),
+           ('d0:2,d1:0,f0:0', b''), ('d0:1,00:2,80:1,d0:0', b'')],
+    'd1': [('d1:0', b''), ('d1:2,40:0*2', b''), ('d1:2,b3:1,56:1', b'k'), ('d1:2,f0:1,50:1,d0:0', b''), ('d1:4,40:0*4', b'')],
+    'f0': [('f0:0', b''), ('f0:1,50:7', b''), ('f0:2,70:0,70:1', b''), ('f0:1,b1:2', 'Ø'.encode()), ('f0:2,d0:0,d0:1,40:0', b''),
+           ('f0:1,d1:0', b''), ('f0:2,f0:0,f0:1,51:1', b'')]}
+
+
+def compounds():
+    """Each as the only element, and beside another of its kind."""
+    for contents in CONTENTS.values():
+        for rows, text in contents:
+            yield case(f'f0:1,{rows}', text)
+        for (rows, text), (other, more) in zip(contents, contents[1:] + contents[:1]):
+            yield case(f'f0:2,{rows},{other}', text + more)
+            yield case(f'd0:2,f0:3,{other},{rows},{other},40:0', more + text + more)
+    # each kind of row in an element, in its shortest form
+    for kind in sorted(KINDS):
+        rows, text = good(kind)
+        yield case(f'f0:1,d0:1,{rows}', text)
+    for rows in ('70:0', '70:255', '70:256', '71:4294967168', '80:0', '80:256', '81:18446744073709551488'):
+        yield case(f'f0:2,d1:2,40:0,{rows},d1:0')
+    # arrays in arrays, three and more deep; inner arrays of different kinds
+    yield from map(case, ['f0:1,f0:1,f0:1,50:1', 'f0:1,f0:1,f0:0', 'f0:2,f0:2,f0:1,50:1,f0:0,f0:1,f0:2,70:1,70:2', 'f0:3,f0:0*3',
+                          'f0:1,f0:1,f0:1,f0:1,d0:0', 'd0:3,40:0,f0:5,f0:0*5,40:0', 'f0:4,f0:1,50:1,f0:1,60:1,f0:1,d0:0,f0:1,f0:0',
+                          'f0:2,f0:1,d1:0,f0:1,d0:0', 'f0:1,f0:2,d0:1,f0:1,f0:0,d0:0', 'd1:2,f0:1,d0:0,f0:1,d1:0',
+                          '00:2,f0:1,d0:0,f0:1,f0:0', 'f0:1,d0:1,00:2,f0:1,d0:0,f0:1,d1:0'])
+
+
+def compound_bodies():
+    """Bodies of about 254 bytes, of the array and of what it holds: only the array's own width, and those within elements, go by them."""
+    for length in (242, 243, 244):
+        yield case(f'f0:1,d0:1,b0:{length}', b'q' * length)
+    for length in (249, 250, 252, 253, 255):
+        for rows in ('d0:1', 'f0:1', 'd0:1,d0:1', 'd0:1,f0:1', 'd1:2,40:0,d1:2,40:0', 'f0:1,d0:1'):
+            yield case(f'f0:1,{rows},b0:{length}', b'q' * length)
+    for count in (254, 256):
+        for rows in (long_parent('d0', count, '40:0'), long_parent('d1', count, '40:0'), long_parent('f0', count, '50:7')):
+            yield case(f'f0:1,{rows}')
+    for count in (31, 32):
+        for kind in ('d0', 'd1', 'f0'):
+            yield case(long_parent('f0', count, f'{kind}:0'))
+    for count in (25, 26, 28, 29):
+        yield case(parent('f0', count, 'd0:1,40:0'))
+        yield case(parent('f0', count, 'f0:1,50:1'))
+
+
+def compound_levels():
+    for depth in (LEVELS - 2, LEVELS - 1, LEVELS):
+        for inner in ['50:7', '40:0', 'd0:0', 'f0:0', 'd0:1', 'd1:1', 'd1:2', 'f0:1', 'f0:1,40:0', 'ff:0', '50:256']:
+            yield case(f'f0:1*{depth},{inner}')
+        yield case(f'd0:1*{depth - 1},f0:1,d0:1,40:0')
+        yield case(f'f0:1,d0:1*{depth - 1},40:0')
+        yield case('f0:1,d1:2,40:0,' * (depth // 2) + '40:0')
+        yield case(f'f0:2,f0:0,f0:1*{depth - 1},b1:1', b'\xff')
+
+
+# A table with lists, maps and arrays in arrays, and its text.
+NESTED = 'f0:2,d0:3,70:1,b1:2,d1:2,b3:1,f0:2,50:1,50:2,d0:2,f0:2,f0:1,60:1,f0:0,00:2,80:1,d0:0', 'Øk'.encode()
+
+
+def compound_faults():
+    """Each refusal at each row of that table."""
+    rows, text = NESTED[0].split(','), NESTED[1]
+    for i, row in enumerate(rows):
+        yield case(','.join(['d0:2', '40:0'] + rows[:i]), text)
+        for fault in ('ff:0', f'{row[:2]}:{2 ** 32}', '40:1', 'd1:1'):
+            yield case(','.join(rows[:i] + [fault] + rows[i + 1:]), text)
+    whole = ','.join(rows)
+    for given in (text, b'', text[:1], text[:2], text[:1] + b'kk', b'\xff' + text[1:], text[:2] + b'\x80', text + b'x'):
+        yield case(whole, given)
+    yield case(whole + ',40:0', text)
+    yield case(whole + ',+40', text)
+    # what fails twice
+    yield from map(case, ['f0:2,d0:1,ff:0,d1:0', 'f0:2,d0:1,40:1,d1:0', 'f0:2,d0:2,40:0,d1:0', 'f0:1,d1:1,ff:0', 'f0:2,f0:1,40:0,50:1', 'f0:3,d0:0,d0:1',
+                          'f0:2,d0:254', 'f0:1,d1:1', 'f0:1,d0:1,50:1*2', 'f0:1,f0:0,50:1*2', f'f0:1,d0:{MOST + 1}', f'f0:1,d1:{MOST},50:1*2',
+                          f'f0:1,f0:{MOST}', 'f0:1,f0:18446744073709551615,50:1*2'])
+
+
+def compound_rooms():
+    tables = [NESTED, ('f0:1,d0:0', b''), ('f0:1,f0:1,50:1', b''), ('f0:3,d1:0*3', b''), ('f0:1,d0:1,b0:255', b'r' * 255)]
+    for rows, text in tables:
+        size = len(encode(words_of(rows), text))
+        for room in (0, size - 1, size + 1):
+            yield case(rows, text, room)
 
 
 def described():
@@ -221,10 +328,18 @@ def too_long():
             for room in (MOST - 1, MOST, MOST + 10):
                 yield case(f'{kind:02x}:{length}', b'a' * length, room)
     for count in (MOST - 10, MOST - 9, MOST - 8, MOST):
-        yield case(parent('d0', count, '40:0'), b'', MOST)
-        yield case(parent('f0', count, '50:7'), b'', MOST)
+        yield case(long_parent('d0', count, '40:0'), b'', MOST)
+        yield case(long_parent('f0', count, '50:7'), b'', MOST)
     for count in (MOST - 10, MOST - 8):
-        yield case(parent('d1', count, '40:0'), b'', MOST)
+        yield case(long_parent('d1', count, '40:0'), b'', MOST)
+    # elements have a head of eight bytes, the array one of nine and the element code
+    for count in (MOST - 19, MOST - 18, MOST - 17):
+        yield case('f0:1,' + long_parent('d0', count, '40:0'), b'', MOST)
+        yield case('f0:1,' + long_parent('f0', count - 1, '50:7'), b'', MOST)
+        yield case(f'f0:1,d0:1,b0:{count - 5}', b'a' * (count - 5), MOST)
+    for kind in ('d0', 'd1', 'f0'):
+        for count in ((MOST - 10) // 8, (MOST - 10) // 8 + 1):
+            yield case(long_parent('f0', count, f'{kind}:0'), b'', 8 * count)
     # all else comes before 7, and 7 before 8
     two = 'd0:2,b0:700000,b1:700000'
     yield case(two, b'a' * 1400000, 0)
@@ -236,13 +351,32 @@ def too_long():
     yield case('d0:3,b0:700000*2,40:1', b'a' * 1400000, MOST)
 
 
+def chains(root, inner, leaf, count):
+    """A table with so many compounds that are not empty: the root, and chains of two in it."""
+    pairs, one = divmod(count - 1, 2)
+    parts = [f'{inner}:1*2,{leaf}'] * pairs + [f'{inner}:1,{leaf}'] * one
+    return ','.join([f'{root}:{len(parts)}', *parts])
+
+
+def marks():
+    """The writer keeps the sizes of up to 256 compounds beside the output."""
+    for count in (255, 256, 257):
+        for root, inner, leaf in (('d0', 'd0', '40:0'), ('f0', 'd0', '40:0'), ('d0', 'f0', '50:1'), ('f0', 'f0', '50:1')):
+            yield case(chains(root, inner, leaf, count))
+    yield case(parent('f0', 150, 'd1:2,40:0,d0:1,b0:2'), b'ab' * 150)
+    yield case(parent('f0', 100, 'd0:2,f0:2,50:1,50:2,f0:1,d0:0'))
+    yield case(','.join(['d0:10', *[f'f0:1*{LEVELS - 2},50:1'] * 10]))
+
+
 SMALL = [
     ('worked examples', worked), ('examples/order.amqp', example), ('1: rows amiss', rows_amiss), ('2: kinds unknown', kinds_unknown),
     ('3: levels', levels),
-    ('4: elements unfit', elements_unfit), ('arrays of every plain kind', elements), ('5: numbers and their short forms', numbers),
+    ('4: elements unfit', elements_unfit), ('arrays of every kind', elements), ('5: numbers and their short forms', numbers),
     ('6: texts and their lengths', texts), ('6: sequences of UTF-8', sequences), ('bodies and counts', bodies),
-    ('described values', described), ('the order of refusals', order), ('8: rooms', rooms)]
-BIG = [('7: too long', too_long)]
+    ('arrays of lists, maps and arrays', compounds), ('their bodies and counts', compound_bodies), ('their levels', compound_levels),
+    ('their refusals', compound_faults), ('their rooms', compound_rooms),
+    ('described values', described), ('the order of refusals', order), ('8: rooms', rooms), ('worked examples of arrays of lists, maps and arrays', worked_nested)]
+BIG = [('7: too long', too_long), ('more compounds than are kept beside the output', marks)]
 
 
 store('own_write.txt', SMALL)

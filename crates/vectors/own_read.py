@@ -7,8 +7,8 @@ import sys
 
 sys.dont_write_bytecode = True
 from form import bytes_field, store
-from model import Refused
-from read_model import CODES, ELEMENT_CODES, measure, read
+from model import LEVELS, Refused
+from read_model import CODES, measure, read
 
 REFUSED_ROOM = 4        # words and bytes of text lent where the bytes are refused
 
@@ -28,9 +28,20 @@ def hexes(*lines):
     return map(case, map(bytes.fromhex, lines))
 
 
+def fields(width, count, body):
+    """Size and count, and the body behind them."""
+    return (width + len(body)).to_bytes(width, 'big') + count.to_bytes(width, 'big') + body
+
+
 def payload(code):
-    """A good payload of a code that holds a scalar."""
+    """A good payload of a code."""
     kind, layout, n = CODES[code]
+    if layout == 'described':
+        return b'\x40\x45'
+    if layout == 'compound':
+        return fields(n, 2, b'\x40\x41')
+    if layout == 'array':
+        return fields(n, 2, b'\x50\x01\x02')
     if layout == 'constant':
         return b''
     if layout == 'small':
@@ -41,14 +52,17 @@ def payload(code):
 
 
 def good(code):
-    kind, layout, n = CODES[code]
-    if layout == 'described':
-        return bytes([code, 0x40, 0x45])
-    if layout == 'compound':
-        return bytes([code]) + (n + 2).to_bytes(n, 'big') + (2).to_bytes(n, 'big') + b'\x40\x41'
-    if layout == 'array':
-        return bytes([code]) + (n + 3).to_bytes(n, 'big') + (2).to_bytes(n, 'big') + b'\x50\x01\x02'
     return bytes([code]) + payload(code)
+
+
+def listed(*values):
+    """A list of those values, in the short form."""
+    return b'\xc0' + fields(1, len(values), b''.join(values))
+
+
+def arrayed(code, *payloads):
+    """An array of those payloads of a code, in the short form."""
+    return b'\xe0' + fields(1, len(payloads), bytes([code]) + b''.join(payloads))
 
 
 def every_code():
@@ -95,15 +109,85 @@ def sizes():
 def arrays():
     for code in CODES:
         for count in (0, 1, 2):
-            items = payload(code) * count if CODES[code][1] not in ('described', 'compound', 'array') else b'\x40' * count
+            items = payload(code) * count
             body = bytes([code]) + items
-            yield case(bytes([0xe0, 1 + len(body), count]) + body)
-            yield case(b'\xf0' + (4 + len(body)).to_bytes(4, 'big') + count.to_bytes(4, 'big') + body)
+            yield case(b'\xe0' + fields(1, count, body))
+            yield case(b'\xf0' + fields(4, count, body))
             if items:
-                yield case(bytes([0xe0, len(body), count]) + body[:-1])
-                yield case(bytes([0xe0, 2 + len(body), count]) + body + b'\x00')
+                yield case(b'\xe0' + fields(1, count, body[:-1]))
+                yield case(b'\xe0' + fields(1, count, body + b'\x00'))
     yield from hexes('e0', 'e000', 'e001', 'e00100', 'e00101', 'e0020146', 'e0020140', 'e003004640', 'e003004040', 'e003007046', 'e00403560201', 'e00401560201',
                      'e00200a1', 'e006ff5001020304', 'f00000000600ffffff5001')
+
+
+# The codes of lists, maps and arrays.
+COMPOUNDS = [code for code, (kind, layout, n) in CODES.items() if layout in ('compound', 'array')]
+# An array of maps: an array of lists is in the first, an array of arrays and a described value are in the second.
+NESTED = arrayed(0xc1, fields(1, 2, b'\x43' + arrayed(0xc0, fields(1, 0, b''), fields(1, 2, b'\xa1\x01k\x56\x01'))),
+                 fields(1, 4, b'\x00\x44\x45' + arrayed(0xe0, fields(1, 1, b'\x73\x00\x00\x00A'), fields(1, 0, b'')) + b'\x40\x45'))
+
+
+def compounds():
+    """Arrays of every code of a list, map or array: empty elements, and elements that hold something."""
+    for code in COMPOUNDS:
+        kind, layout, n = CODES[code]
+        empty, full = fields(n, 0, b''), payload(code)
+        yield from (case(arrayed(code, *items)) for items in ((empty,), (empty, full), (full, empty), (empty, full, empty)))
+        yield case(b'\xf0' + fields(4, 2, bytes([code]) + empty + full))
+        yield case(listed(b'\x40', arrayed(code, full, full), b'\x40'))
+        # a size below its field, one beyond the array's body, a count with no values, bytes left in an element, half a field
+        zeros = bytes(n)
+        for item in (zeros, (n - 1).to_bytes(n, 'big') + zeros, (n + 1).to_bytes(n, 'big') + zeros, fields(n, 1, b''), fields(n, 0, b'\x40'),
+                     fields(n, 2, b'\x50\x01'), fields(n, 3, b'\x50\x01'), empty[:-1], full + b'\x00'):
+            yield case(listed(b'\x40', arrayed(code, item)) + b'\x00\x00\x00\x00')
+            yield case(arrayed(code, full, item))
+    # arrays in arrays, three deep, with elements of different codes; an element code alone
+    for inner in (0x50, 0x52, 0x56, 0xa1, 0xb1, 0x94, 0xc0, 0xd1, 0xe0, 0xf0, 0x40, 0x00, 0x45, 0x46):
+        items = payload(inner) if inner in CODES else b''
+        yield case(arrayed(0xe0, fields(1, 0, b''), fields(1, 1, bytes([inner]) + items), fields(1, 0, bytes([inner]))))
+        yield case(listed(b'\x40', arrayed(0xf0, fields(4, 1, b'\xe0' + fields(1, 1, bytes([inner]) + items)))))
+    yield from hexes('e00702c00201460501', 'e00200c0', 'e00300c000', 'e00300d1d1', 'c0090240e00501c0020146', 'e00a01c0070240e003015602', 'e006ffc001000100',
+                     'f00000000600ffffffc00100', 'e00402c00102', 'e00402f00102', 'c00a0240e00601d000000000', 'e00a01f0' + '00' * 8, 'e01301f0' + '00' * 17,
+                     'f00000001500000002c0' + '00' * 16, 'f00000002700000002c0' + '00' * 34, 'f00000000700000002c10101', 'f00000000700000002c10100',
+                     'f00000001500000002c1' + 'ff' * 16, 'f00000000d00000002d0' + '00' * 8, 'f00000001700000002d0' + '00' * 18, 'f00000000700000002d10000',
+                     'f00000000900000002d101610161', 'f00000000900000002e000000000', 'f00000000f00000002e0' + '00' * 10, 'f00000000500000000e0')
+    yield case(b'\xf0' + fields(4, 300, b'\xc0' + b'\x01\x00' * 300))
+    yield case(b'\xf0' + fields(4, 2, b'\xd0' + fields(4, 300, b'\x40' * 300) + fields(4, 0, b'')))
+
+
+def compound_faults():
+    """Each byte of an array of compounds changed, and the array cut short, behind a null in a list: the place is the array's."""
+    for i in range(len(NESTED)):
+        for byte in (0x00, 0x46, NESTED[i] ^ 1):
+            data = NESTED[:i] + bytes([byte]) + NESTED[i + 1:]
+            if data != NESTED:
+                yield case(listed(b'\x40', data))
+    for length in range(0, len(NESTED), 4):
+        yield case(listed(b'\x40', NESTED)[:4 + length])
+        yield case(listed(b'\x40', NESTED[:length]))
+    yield case(NESTED)
+    yield case(b'\x00\x40' + NESTED)
+    yield case(b'\xc1' + fields(1, 2, NESTED + NESTED))
+
+
+def compound_levels():
+    """Arrays in arrays, and lists in arrays in lists, to the last level."""
+    ends = [(0x50, b'\x07'), (0xc0, fields(1, 0, b'')), (0xc0, fields(1, 1, b'\x40')), (0xc0, b'\x01\x01'), (0xc1, b'\x01\x01'), (0xc1, b'\x01\x02'),
+            (0xe0, fields(1, 0, b'')), (0xe0, fields(1, 0, b'\x50')), (0xe0, b'\x01\x01'),
+            (0xe0, fields(1, 1, b'\x50\x07')), (0xe0, fields(1, 1, b'\x46')), (0x46, b''), (0x40, b'')]
+    for depth in (LEVELS - 2, LEVELS - 1, LEVELS):
+        for code, items in ends:
+            for _ in range(depth - 1):
+                code, items = 0xe0, fields(1, 1, bytes([code]) + items)
+            yield case(arrayed(code, items))
+            if depth == LEVELS - 2:
+                yield case(listed(b'\x40', arrayed(code, items)))
+    for depth in (LEVELS // 2 - 1, LEVELS // 2, LEVELS // 2 + 1):
+        data = b'\x40'
+        for _ in range(depth):
+            data = arrayed(0xc0, fields(1, 1, data))
+        yield case(data)
+        yield case(listed(data))
 
 
 def levels():
@@ -127,9 +211,14 @@ def rooms():
             yield case(data, words, letters)
     yield case(b'\x40', 0, 0)
     yield case(b'\x40', 1, 0)
+    v = measure(NESTED)
+    for words in (0, 2 * len(v.rows) - 1, 2 * len(v.rows), 2 * len(v.rows) + 3):
+        for letters in (0, len(v.text), len(v.text) + 3):
+            yield case(NESTED, words, letters)
 
 
 SECTIONS = [('every code', every_code), ('numbers', numbers), ('texts', texts), ('sizes and counts', sizes), ('arrays', arrays),
+            ('arrays of lists, maps and arrays', compounds), ('their refusals', compound_faults), ('their levels', compound_levels),
             ('levels', levels), ('rooms', rooms)]
 
 store('own_read.txt', SECTIONS)

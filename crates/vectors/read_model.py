@@ -25,7 +25,7 @@ CODES = {
     0xc0: (0xd0, 'compound', 1), 0xc1: (0xd1, 'compound', 1), 0xd0: (0xd0, 'compound', 4), 0xd1: (0xd1, 'compound', 4),
     0xe0: (0xf0, 'array', 1), 0xf0: (0xf0, 'array', 4)}
 # 4.4
-ELEMENT_CODES = bytes.fromhex('505152535455566061707172737480818283849498a0a1a3b0b1b3')
+ELEMENT_CODES = bytes.fromhex('505152535455566061707172737480818283849498a0a1a3b0b1b3c0c1d0d1e0f0')
 
 
 class Value:
@@ -62,13 +62,19 @@ def scalar(data, layout, width, kind, place, at, end):
     return Value([(kind, number)], b'', at + width)
 
 
-def children(data, count, at, end, level):
-    """So many values, one after another. Each takes a byte at least, so no count is believed."""
-    rows, text = [], b''
+def several(one, count, at):
+    """So many of what `one` reads at a place, one after another. Each takes a byte at least, so no count is believed."""
+    rows, texts = [], []
     for _ in range(count):
-        child = value(data, at, end, level)
-        rows, text, at = rows + child.rows, text + child.text, child.end
-    return Value(rows, text, at)
+        v = one(at)
+        rows += v.rows
+        texts.append(v.text)
+        at = v.end
+    return Value(rows, b''.join(texts), at)
+
+
+def children(data, count, at, end, level, outer):
+    return several(lambda start: value(data, start, end, level, outer), count, at)
 
 
 def fields(data, width, place, at, end):
@@ -80,17 +86,18 @@ def fields(data, width, place, at, end):
     return int.from_bytes(data[at + width:at + 2 * width], 'big'), at + 2 * width, at + width + size
 
 
-def compound(data, width, kind, place, at, end, level):
+def compound(data, width, kind, place, at, end, level, outer):
     count, first, last = fields(data, width, place, at, end)
     if kind == 0xd1 and count % 2:
         raise Refused(12, place)
-    body = children(data, count, first, last, level + 1)
+    body = children(data, count, first, last, level + 1, outer)
     if body.end != last:
         raise Refused(12, place)
     return Value([(kind, count)] + body.rows, body.text, last)
 
 
 def array(data, width, kind, place, at, end, level):
+    """All that an array holds, however deep, is refused at its place, or at that of the outermost array around it."""
     count, first, last = fields(data, width, place, at, end)
     if count and level == LEVELS:
         raise Refused(3, place)
@@ -103,37 +110,39 @@ def array(data, width, kind, place, at, end, level):
         raise Refused(10, place)
     if code not in ELEMENT_CODES:
         raise Refused(4, place)
-    element, layout, n = CODES[code]
-    rows, text, at = [(kind, count)], b'', first + 1
-    for _ in range(count):
-        item = scalar(data, layout, n, element, place, at, last)
-        rows, text, at = rows + item.rows, text + item.text, item.end
-    if at != last:
+    items = several(lambda start: payload(data, code, place, start, last, level + 1, place), count, first + 1)
+    if items.end != last:
         raise Refused(12, place)
-    return Value(rows, text, last)
+    return Value([(kind, count)] + items.rows, items.text, last)
 
 
-def value(data, at, end, level):
-    """The value at a place of its room, which ends there."""
-    if level > LEVELS:
-        raise Refused(3, at)
-    if at >= end:
-        raise Refused(9, at)
-    if data[at] not in CODES:
-        raise Refused(10, at)
-    kind, layout, n = CODES[data[at]]
+def payload(data, code, place, at, end, level, outer):
+    """What stands behind a code."""
+    kind, layout, n = CODES[code]
     if layout == 'compound':
-        return compound(data, n, kind, at, at + 1, end, level)
+        return compound(data, n, kind, place, at, end, level, outer)
     if layout == 'array':
-        return array(data, n, kind, at, at + 1, end, level)
+        return array(data, n, kind, place, at, end, level)
     if layout == 'described':
-        both = children(data, 2, at + 1, end, level + 1)
+        both = children(data, 2, at, end, level + 1, outer)
         return Value([(kind, 2)] + both.rows, both.text, both.end)
-    return scalar(data, layout, n, kind, at, at + 1, end)
+    return scalar(data, layout, n, kind, place, at, end)
+
+
+def value(data, at, end, level, outer):
+    """The value at a place of its room, which ends there. `outer` is the place of the outermost array around it, or None."""
+    place = at if outer is None else outer
+    if level > LEVELS:
+        raise Refused(3, place)
+    if at >= end:
+        raise Refused(9, place)
+    if data[at] not in CODES:
+        raise Refused(10, place)
+    return payload(data, data[at], place, at + 1, end, level, outer)
 
 
 def measure(data):
-    return value(data, 0, len(data), 1)
+    return value(data, 0, len(data), 1, None)
 
 
 def read(data, words, letters):

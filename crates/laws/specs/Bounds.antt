@@ -3,12 +3,12 @@ use Prim.Native.Nat.{ℕ, zero, suc, _+_, _*_, _≤_, _<_}
 use mathlib.Core.Path.{_≡_, refl}
 use mathlib.Core.List.{List, [], _∷_, _++_}
 use native.Mathlib.Omega.{arith}
-use lib.Dec.{T, leb→le}
+use lib.Dec.{T, leb, leb→le}
 use lib.ListN.{length, length-append}
 use Rattle.standard.specs.Tree.{Tree, node, Trees, none, more, rows, rows*, text, text*, tall, tall*}
 use Rattle.standard.specs.Codes.{Scalar, Layout, layoutOf, filled, element}
 use Rattle.standard.specs.Kinds.{named}
-use Rattle.standard.specs.Grammar.{Plain, constant′, whole′, small′, raw′, sized′, Many, none′, more′, leaf′, Coded, coded′, Items, empty′, items′, Shape, scalar′, described′, compound′, array′, Payload, Formed}
+use Rattle.standard.specs.Grammar.{Plain, constant′, whole′, small′, raw′, sized′, Many, none′, more′, leaf′, Fields, fields′, Coded, coded′, Items, empty′, items′, Shape, scalar′, described′, compound′, array′, Payload, Formed}
 
 -- two words to a row
 mutual
@@ -61,6 +61,9 @@ node-small : (k n : ℕ) (vs : Trees) (hs a : List ℕ) → 0 < length hs → Sm
 unfolding tall text
 node-small k n vs hs a i h = record { height = omega (arith, h .height, length-append hs a); letters = omega (arith, h .letters, length-append hs a) }
 
+fields-some : {w n : ℕ} {hs bs : List ℕ} → Fields w n hs bs → T (leb 1 w) → 0 < length hs
+fields-some (fields′ {w = w} ss ns h k e f) t = omega (arith, length-append ss ns, leb→le 1 w t)
+
 -- behind every code, counting the code; behind an element's, without it
 abbrev Fits : (ℕ → Tree → List ℕ → Type 0) → Type 0
 Fits P = (c : ℕ) (v : Tree) (a : List ℕ) → P c v a → Small v (c ∷ a) × (T (element (layoutOf c)) → Small v a)
@@ -81,8 +84,8 @@ module _ {P : ℕ → Tree → List ℕ → Type 0} (g : Fits P) where
     λ o. record { height = omega (arith, plain-some h o, leaf-text k n t .0); letters = omega (arith, plain-small h, leaf-text k n t .1) },
   )
   shape-small {k = k} (described′ {vs = vs} {bs = bs} m) c = (node-small k 2 vs (c ∷ []) bs (omega arith) (many-small coded-small m), λ t. absurd t)
-  shape-small {k = k} (compound′ {n = n} {vs = vs} {hs = hs} {bs = bs} h t m) c = (node-small k n vs (c ∷ hs) bs (omega arith) (many-small coded-small m), λ t. absurd t)
-  shape-small {k = k} (array′ {n = n} {e = e} {vs = vs} {hs = hs} {bs = bs} h i) c = (node-small k (named n e) vs (c ∷ hs) bs (omega arith) (items-small i), λ t. absurd t)
+  shape-small {k = k} (compound′ {n = n} {vs = vs} {hs = hs} {bs = bs} h t m) c = (node-small k n vs (c ∷ hs) bs (omega arith) (many-small coded-small m), λ o. node-small k n vs hs bs (fields-some h o) (many-small coded-small m))
+  shape-small {k = k} (array′ {n = n} {e = e} {vs = vs} {hs = hs} {bs = bs} h i) c = (node-small k (named n e) vs (c ∷ hs) bs (omega arith) (items-small i), λ o. node-small k (named n e) vs hs bs (fields-some h o) (items-small i))
 
 fits : (l : ℕ) → Fits (Payload l)
 fits zero c v a f = absurd f

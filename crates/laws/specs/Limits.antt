@@ -13,7 +13,7 @@ use Rattle.standard.specs.Bytes.{unbe}
 use Rattle.standard.specs.Tree.{Tree, node, Trees, none, more, root, count, rows, rows*}
 use Rattle.standard.specs.Codes.{Scalar, constant, whole, small, raw, sized, Layout, unknown, described, scalar, compound, array, Entry, entry, codes, entryOf, layoutOf, kindOf, filled, element}
 use Rattle.standard.specs.Utf8.{GoodText}
-use Rattle.standard.specs.Kinds.{Short, Style, foreign, numbered, blob, lettered, listed, mapped, arrayed, describing, kinds, styleOf, isKind, plain, fair, paired}
+use Rattle.standard.specs.Kinds.{Short, Style, foreign, numbered, blob, lettered, listed, mapped, arrayed, describing, kinds, styleOf, isKind, member, fair, paired}
 use Rattle.standard.specs.Grammar.{extend, negative, Plain, constant′, whole′, small′, raw′, sized′, Many, none′, more′, leaf′, Coded, coded′, Items, empty′, items′, Shape, scalar′, described′, compound′, array′, Payload, Formed}
 use Rattle.standard.specs.Table.{most, Spot, any, first, like, allowed, ranged, letters, children, firstIn, next, All, Valid}
 use Rattle.standard.specs.Facts.{and-left, if-case, clean-nil}
@@ -76,20 +76,20 @@ suited : (c : ℕ) → Suits (kindOf c) (layoutOf c) (styleOf (kindOf c))
 unfolding entryOf
 suited c = suitedIn c codes codes-suited
 
--- what stands behind an element code is plain
-element-plain : {k : ℕ} {y : Layout} {s : Style} → Suits k y s → T (element y) → T (plain s)
-unfolding element filled plain
-element-plain unknown-any t = absurd t
-element-plain described-pair t = absurd t
-element-plain (constant-number h) t = absurd t
-element-plain constant-list t = absurd t
-element-plain (whole-number {v = v} {w = w} h) t = le→leb 1 w (omega (arith, leb→le v w h, leb→le 1 v t))
-element-plain (small-number h) t = h
-element-plain raw-blob t = t
-element-plain sized-letters t = tt
-element-plain compound-list t = absurd t
-element-plain (compound-map h) t = absurd t
-element-plain array-elements t = absurd t
+-- what stands behind an element code may be an element
+element-member : {k : ℕ} {y : Layout} {s : Style} → Suits k y s → T (element y) → T (member s)
+unfolding element filled member
+element-member unknown-any t = absurd t
+element-member described-pair t = absurd t
+element-member (constant-number h) t = absurd t
+element-member constant-list t = absurd t
+element-member (whole-number {v = v} {w = w} h) t = le→leb 1 w (omega (arith, leb→le v w h, leb→le 1 v t))
+element-member (small-number h) t = h
+element-member raw-blob t = t
+element-member sized-letters t = tt
+element-member compound-list t = tt
+element-member (compound-map h) t = tt
+element-member array-elements t = tt
 
 -- Numbers that were read are within their width
 
@@ -180,7 +180,7 @@ module _ (l : ℕ) (g : PayloadValid l) where
   items-valid empty′ b m = tt
   items-valid (items′ {e = e} t h) b m =
       many-valid l (λ d. T (allowed d (kindOf e))) (λ v a p c o d i. let r = g e v a p c o d i in (r .0, rw (r .1) (next-allowed d (kindOf e) i)))
-      h (b .1) m first (element-plain (suited e) t)
+      h (b .1) m first (element-member (suited e) t)
 
   -- P holds of what was read, if it holds of every row of which this much is known
   shape-fit : (P : Tree → Type 0) {k : ℕ} {y : Layout} {s : Style} {v : Tree} {a : List ℕ} → Suits k y s → Shape (Payload l) k y v a → Bytes a

@@ -11,7 +11,7 @@ use Rattle.standard.specs.Bytes.{be, unbe}
 use Rattle.standard.specs.Tree.{Tree, node, Trees, none, more, root, count}
 use Rattle.standard.specs.Codes.{constant, whole, small, raw, sized, Layout, described, scalar, compound, array, entry, codes, entryOf, layoutOf, kindOf, filled, element}
 use Rattle.standard.specs.Utf8.{GoodText}
-use Rattle.standard.specs.Kinds.{Short, never, flag, unsigned, signed, Style, foreign, numbered, blob, lettered, listed, mapped, arrayed, describing, Kind, kind, kinds, styleOf, plain, fair, paired}
+use Rattle.standard.specs.Kinds.{Short, never, flag, unsigned, signed, Style, foreign, numbered, blob, lettered, listed, mapped, arrayed, describing, Kind, kind, kinds, styleOf, member, fair, paired}
 use Rattle.standard.specs.Grammar.{extend, negative, constant′, whole′, small′, raw′, sized′, Many, none′, more′, Leaf, leaf′, Fields, fields′, coded′, Items, empty′, items′, Shape, scalar′, described′, compound′, array′, Payload, Form, Formed}
 use Rattle.standard.specs.Table.{most, Spot, any, first, like, allowed, ranged, letters, children, firstIn, next, Row, All, Valid}
 use Rattle.standard.specs.Encode.{fitsByte, shortEnd, shortest, enclosed, compact, wide, headed, encode, encode*, item, payloads}
@@ -219,41 +219,60 @@ compact-form describing l k n t cs b a g r m f e =
     let i : n ≡ 2 = eqb→eq n 2 (r .inRange) in
     rw (no-text t (r .long), i) (form l g (described′ (rw (r .full ∙ i) at (f (omega arith)))))
 
--- a plain row behind its own code, and that it takes a byte
-wide-form : (s : Style) (l k n : ℕ) (t : List ℕ) (cs : Trees) (b a : List ℕ) → Agrees k s → T (plain s) → Fit s k n t cs → Payload (suc l) k (node k n t cs) (wide s n t b a) × (0 < length (wide s n t b a))
-unfolding plain wide ranged letters children
-wide-form foreign l k n t cs b a g p r = absurd p
-wide-form (numbered s w) l k n t cs b a g p r =
+-- size and count in the four-byte form
+four-length : (n : ℕ) (b : List ℕ) → length (be 4 (4 + length b) ++ be 4 n ++ b) ≡ 8 + length b
+four-length n b = omega (arith, length-append (be 4 (4 + length b) ++ be 4 n) b, length-append (be 4 (4 + length b)) (be 4 n), length-be 4 (4 + length b), length-be 4 n)
+
+four-fields : (n : ℕ) (b : List ℕ) → n ≤ length b → length (be 4 (4 + length b) ++ be 4 n ++ b) ≤ most → Fields 4 n (be 4 (4 + length b) ++ be 4 n) b
+four-fields n b h m =
+    let e = four-length n b in
+    fields′ (be 4 (4 + length b)) (be 4 n) (length-be 4 (4 + length b)) (length-be 4 n) (four (4 + length b) (omega arith)) (four n (omega arith))
+
+-- a row behind its own code, from its children as values and as elements, and that it takes a byte
+wide-form : (s : Style) (l k n : ℕ) (t : List ℕ) (cs : Trees) (b a : List ℕ) → Agrees k s → T (member s) → Fit s k n t cs → length (wide s n t b a) ≤ most
+    → (length b ≤ most → Many (Form l) (count cs) cs b) → (firstIn s n ≡ first → length a ≤ most → Body l cs a) → Payload (suc l) k (node k n t cs) (wide s n t b a) × (0 < length (wide s n t b a))
+unfolding member wide ranged letters children firstIn Body
+wide-form foreign l k n t cs b a g p r m f e = absurd p
+wide-form (numbered s w) l k n t cs b a g p r m f e =
     let d : t ≡ [] = no-text t (r .long) in (
       rw (d, no-children cs (r .full))
           (under l (g .0) (scalar′ (whole-leaf k n w (ltb→lt n (256 ^ w) (and-left (ltb n (256 ^ w)) (fair k n) (r .inRange))) (and-right (ltb n (256 ^ w)) (fair k n) (r .inRange)) (rw d at (r .good))))),
       omega (arith, length-be w n, leb→le 1 w p),
     )
-wide-form (blob w) l k n t cs b a g p r =
+wide-form (blob w) l k n t cs b a g p r m f e =
     (rw (eqb→eq n 0 (r .inRange), no-children cs (r .full)) (under l (g .0) (scalar′ (leaf′ (raw′ (r .long)) (g .1) (r .good)))), omega (arith, r .long, leb→le 1 w p))
-wide-form (lettered s) l k n t cs b a g p r = (
+wide-form (lettered s) l k n t cs b a g p r m f e = (
   rw (no-children cs (r .full)) (under l (g .1) (scalar′ (leaf′ (sized′ (be 4 n) (length-be 4 n) (four n (omega (arith, leb→le n most (r .inRange)))) (r .long)) (g .2 n) (r .good)))),
   omega (arith, length-append (be 4 n) t, length-be 4 n),
 )
-wide-form (listed z s) l k n t cs b a g p r = absurd p
-wide-form (mapped s) l k n t cs b a g p r = absurd p
-wide-form (arrayed s) l k n t cs b a g p r = absurd p
-wide-form describing l k n t cs b a g p r = absurd p
+wide-form (listed z s) l k n t cs b a g p r m f e =
+    let i : Many (Form l) n cs b = rw (r .full) at (f (omega (arith, four-length n b))) in
+    (rw (no-text t (r .long)) (under l (g .2) (compound′ (four-fields n b (many-count (Form l) (form-some l) i) m) (g .4 n) i)), omega (arith, four-length n b))
+wide-form (mapped s) l k n t cs b a g p r m f e =
+    let i : Many (Form l) n cs b = rw (r .full) at (f (omega (arith, four-length n b))) in
+    let o : n % 2 ≡ 0 = eqb→eq (n % 2) 0 (and-right (leb n most) (eqb (n % 2) 0) (r .inRange)) in
+    (rw (no-text t (r .long)) (under l (g .1) (compound′ (four-fields n b (many-count (Form l) (form-some l) i) m) (g .2 n o) i)), omega (arith, four-length n b))
+wide-form (arrayed s) l k n t cs b a g p r m f e =
+    let i = e refl (omega (arith, four-length n a)) in
+    let j : Items (Payload l) n (i .0) cs a = rw (r .full) at (i .1) in
+    let o : n ≤ length a = rw (r .full) at (i .2) in
+    (rw (no-text t (r .long)) (under l (g .1) (array′ (four-fields n a o m) j)), omega (arith, four-length n a))
+wide-form describing l k n t cs b a g p r m f e = absurd p
 
 -- Elements
 
 element-at : {c k : ℕ} {y : Layout} → Code c k y → T (element y) → T (element (layoutOf c))
 element-at c t = subst (λ e. T (element (e .layout))) (sym c) t
 
-element-ok : (s : Style) (k : ℕ) → Agrees k s → T (plain s) → T (element (layoutOf k))
-unfolding plain element filled
+element-ok : (s : Style) (k : ℕ) → Agrees k s → T (member s) → T (element (layoutOf k))
+unfolding member element filled
 element-ok foreign k h t = absurd t
 element-ok (numbered s w) k h t = element-at (h .0) t
 element-ok (blob w) k h t = element-at (h .0) t
 element-ok (lettered s) k h t = element-at (h .1) tt
-element-ok (listed e s) k h t = absurd t
-element-ok (mapped s) k h t = absurd t
-element-ok (arrayed s) k h t = absurd t
+element-ok (listed e s) k h t = element-at (h .2) tt
+element-ok (mapped s) k h t = element-at (h .1) tt
+element-ok (arrayed s) k h t = element-at (h .1) tt
 element-ok describing k h t = absurd t
 
 abbrev pub AllOf : (kind : ℕ) → Trees → Type 0
@@ -269,13 +288,13 @@ unfolding next allowed
 alike l k none h = tt
 alike l k (more (node j n t cs) vs) h = (eqb→eq j k (spot-of l (like k) (node j n t cs) (h .0)), alike l k vs (h .1))
 
-headed-form : (l : ℕ) (vs : Trees) (b : List ℕ) → ((k : ℕ) → T (plain (styleOf k)) → AllOf k vs → Many (Payload l k) (count vs) vs b × (count vs ≤ length b))
-    → All (λ d v. Valid l d v) first vs → Body l vs (headed vs b)
+headed-form : (l : ℕ) (vs : Trees) (b : List ℕ) → ((k : ℕ) → T (member (styleOf k)) → AllOf k vs → length b ≤ most → Many (Payload l k) (count vs) vs b × (count vs ≤ length b))
+    → All (λ d v. Valid l d v) first vs → length (headed vs b) ≤ most → Body l vs (headed vs b)
 unfolding headed count next allowed Body
-headed-form l none b f h = (0, empty′, omega arith)
-headed-form l (more (node k n t cs) vs) b f h =
-    let p : T (plain (styleOf k)) = spot-of l first (node k n t cs) (h .0) in
-    let r = f k p (refl, alike l k vs (h .1)) in
+headed-form l none b f h m = (0, empty′, omega arith)
+headed-form l (more (node k n t cs) vs) b f h m =
+    let p : T (member (styleOf k)) = spot-of l first (node k n t cs) (h .0) in
+    let r = f k p (refl, alike l k vs (h .1)) (omega arith) in
     (kindOf k, items′ (element-ok (styleOf k) k (agreement k) p) (r .0), omega (arith, r .1))
 
 fit : (c : Spot) (k n : ℕ) (t : List ℕ) (cs : Trees) → Row c k n t cs → Fit (styleOf k) k n t cs
@@ -287,7 +306,7 @@ mutual
   encode-form : (v : Tree) (l : ℕ) (c : Spot) → Valid l c v → length (encode v) ≤ most → Form l v (encode v)
   encode-form (node k n t cs) zero c h m = absurd h
   encode-form (node k n t cs) (suc l) c h m = compact-form (styleOf k) l k n t cs (encode* cs) (headed cs (payloads cs)) (agreement k) (fit c k n t cs (h .0)) m
-      (λ i. encode*-form cs l (firstIn (styleOf k) n) (h .1) i) (λ e i. headed-form l cs (payloads cs) (λ j p a. payloads-form cs j p l (firstIn (styleOf k) n) a (h .1)) (rw e at (h .1)))
+      (λ i. encode*-form cs l (firstIn (styleOf k) n) (h .1) i) (λ e i. headed-form l cs (payloads cs) (λ j p a o. payloads-form cs j p l (firstIn (styleOf k) n) a (h .1) o) (rw e at (h .1)) i)
 
   encode*-form : (vs : Trees) (l : ℕ) (c : Spot) → All (λ d v. Valid l d v) c vs → length (encode* vs) ≤ most → Many (Form l) (count vs) vs (encode* vs)
   encode*-form none l c h m = none′
@@ -295,18 +314,19 @@ mutual
       let e : length (encode v ++ encode* vs) ≡ length (encode v) + length (encode* vs) = length-append (encode v) (encode* vs) in
       more′ (encode-form v l c (h .0) (omega arith)) (encode*-form vs l (next c (root v)) (h .1) (omega arith))
 
-  item-form : (v : Tree) (k : ℕ) → T (plain (styleOf k)) → (l : ℕ) (c : Spot) → root v ≡ k → Valid l c v → Payload l k v (item v) × (0 < length (item v))
-  item-form (node j n t cs) k p zero c a h = absurd h
-  item-form (node j n t cs) k p (suc l) c a h =
-      let r = wide-form (styleOf j) l j n t cs (encode* cs) (headed cs (payloads cs)) (agreement j) (rw a p) (fit c j n t cs (h .0)) in
+  pub item-form : (v : Tree) (k : ℕ) → T (member (styleOf k)) → (l : ℕ) (c : Spot) → root v ≡ k → Valid l c v → length (item v) ≤ most → Payload l k v (item v) × (0 < length (item v))
+  item-form (node j n t cs) k p zero c a h m = absurd h
+  item-form (node j n t cs) k p (suc l) c a h m =
+      let r = wide-form (styleOf j) l j n t cs (encode* cs) (headed cs (payloads cs)) (agreement j) (rw a p) (fit c j n t cs (h .0)) m
+      (λ i. encode*-form cs l (firstIn (styleOf j) n) (h .1) i) (λ e i. headed-form l cs (payloads cs) (λ x q b o. payloads-form cs x q l (firstIn (styleOf j) n) b (h .1) o) (rw e at (h .1)) i) in
       (subst (λ x. Payload (suc l) x (node j n t cs) (item (node j n t cs))) a (r .0), r .1)
 
-  payloads-form : (vs : Trees) (k : ℕ) → T (plain (styleOf k)) → (l : ℕ) (c : Spot) → AllOf k vs → All (λ d v. Valid l d v) c vs → Many (Payload l k) (count vs) vs (payloads vs) × (count vs ≤ length (payloads vs))
-  payloads-form none k p l c a h = (none′, omega arith)
-  payloads-form (more v vs) k p l c a h =
+  payloads-form : (vs : Trees) (k : ℕ) → T (member (styleOf k)) → (l : ℕ) (c : Spot) → AllOf k vs → All (λ d v. Valid l d v) c vs → length (payloads vs) ≤ most → Many (Payload l k) (count vs) vs (payloads vs) × (count vs ≤ length (payloads vs))
+  payloads-form none k p l c a h m = (none′, omega arith)
+  payloads-form (more v vs) k p l c a h m =
       let e : length (item v ++ payloads vs) ≡ length (item v) + length (payloads vs) = length-append (item v) (payloads vs) in
-      let i = item-form v k p l c (a .0) (h .0) in
-      let r = payloads-form vs k p l (next c (root v)) (a .1) (h .1) in
+      let i = item-form v k p l c (a .0) (h .0) (omega arith) in
+      let r = payloads-form vs k p l (next c (root v)) (a .1) (h .1) (omega arith) in
       (more′ (i .0) (r .0), omega (arith, i .1, r .1))
 
 -- every value of the table that is not too long is written to well-formed bytes

@@ -205,8 +205,8 @@ fn element_of(code: u8) -> Element
         Layout::Small(_) => Element::Fit,
         Layout::Raw(width) => filled(width),
         Layout::Sized(width) => filled(width),
-        Layout::Compound(_) => Element::Unfit(refusal::ELEMENT_UNFIT),
-        Layout::Array(_) => Element::Unfit(refusal::ELEMENT_UNFIT),
+        Layout::Compound(width) => filled(width),
+        Layout::Array(width) => filled(width),
     }
 }
 

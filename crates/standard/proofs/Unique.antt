@@ -30,7 +30,7 @@ use Rattle.standard.proofs.kind.«is_fair» as «is_fair»
 use Rattle.standard.proofs.kind.«fits_width» as «fits_width»
 use Rattle.standard.proofs.kind.«fits_byte» as «fits_byte»
 use Rattle.standard.proofs.kind.Style.«is_kind» as «is_kind»
-use Rattle.standard.proofs.kind.Style.«is_plain» as «is_plain»
+use Rattle.standard.proofs.kind.Style.«is_member» as «is_member»
 use Rattle.standard.proofs.kind.Style.letters as letters
 use Rattle.standard.proofs.kind.Style.children as children
 use Rattle.standard.proofs.kind.Style.takes as takes
@@ -125,8 +125,8 @@ module _ {M : Type 1} (𝓤 : URA M) (H : Heap 𝓤) (κs : Lfts 0) (A : Atoms �
   pub kind-promise : (s : Style) (r : Bool) → «is_kind».ensures-1 𝓤 H κs A mem run s (record { entry = s; exit = s }) r ≡ fact 𝓤 (r ≡ Kinds.isKind (styleIs s))
   kind-promise s r = refl
 
-  pub plain-promise : (s : Style) (r : Bool) → «is_plain».ensures-1 𝓤 H κs A mem run s (record { entry = s; exit = s }) r ≡ fact 𝓤 (r ≡ Kinds.plain (styleIs s))
-  plain-promise s r = refl
+  pub member-promise : (s : Style) (r : Bool) → «is_member».ensures-1 𝓤 H κs A mem run s (record { entry = s; exit = s }) r ≡ fact 𝓤 (r ≡ Kinds.member (styleIs s))
+  member-promise s r = refl
 
   pub letters-promise : (s : Style) (n r : ℕ) → letters.ensures-1 𝓤 H κs A mem run s n (record { entry = s; exit = s }) (record { entry = n; exit = n }) r ≡ fact 𝓤 (r ≡ Table.letters (styleIs s) n)
   letters-promise s n r = refl

@@ -113,14 +113,14 @@ unfoldable pub element : Layout → Bool
 element unknown = false
 element described = false
 element (scalar s) = filled s
-element (compound w) = false
-element (array w) = false
+element (compound w) = leb 1 w
+element (array w) = leb 1 w
 
--- 27 of the 40 may
+-- 33 of the 40 may
 allowedIn : List Entry → ℕ
 allowedIn [] = 0
 allowedIn (e ∷ es) = if (element (e .layout)) (suc (allowedIn es)) (allowedIn es)
 
-twentySeven : allowedIn codes ≡ 27
+thirtyThree : allowedIn codes ≡ 33
 unfolding allowedIn codes element filled
-twentySeven = refl
+thirtyThree = refl

@@ -8,13 +8,13 @@ use Rattle.standard.specs.Choose.{lookup}
 use Rattle.standard.specs.Bytes.{be, spell}
 use Rattle.standard.specs.Text.{flawless, fault, faultIn, faultDue, leadIn, utf8, ascii}
 use Rattle.standard.specs.Codes.{codes, entryOf, isCode, filled, element}
-use Rattle.standard.specs.Kinds.{kinds, styleOf, isKind, plain as plainStyle, fair, flaw, paired}
+use Rattle.standard.specs.Kinds.{kinds, styleOf, isKind, member, fair, flaw, paired}
 use Rattle.standard.specs.Tree.{rows, text, tall, count}
 use Rattle.standard.specs.Grammar.{extend, negative}
 use Rattle.standard.specs.Read.{cut, plain, leaf, many, done, fields, held, items, inside, coded, behind, payload, value, front}
 use Rattle.standard.specs.Table.{allowed, ranged, letters, children, firstIn, next, letter, several, row, tree, spent, table}
 use Rattle.standard.specs.Encode.{encode, compact, shortest, headed, item, payloads, wide, enclosed, fitsByte}
-use Rattle.standard.specs.Outcomes.{bytesOf, size, Extent, measure}
+use Rattle.standard.specs.Outcomes.{bytesOf, size, Extent, measure, Reading, readInto, read}
 use Rattle.standard.specs.Listing.{decimalIn, hexDigit, hex, line, lines, shown, listing}
 
 pub record Example : Type 0 where
@@ -51,8 +51,27 @@ _and_ a b = (a, b)
 infixr 20 _and_
 -- every example is written to its bytes
 pub proved-set : Written examples
-unfolding examples bytesOf table tree row several letter spent allowed ranged letters children firstIn next styleOf lookup kinds isKind plainStyle fair flaw faultDue leadIn utf8 ascii encode compact shortest headed item payloads wide enclosed fitsByte be count
+unfolding examples bytesOf table tree row several letter spent allowed ranged letters children firstIn next styleOf lookup kinds isKind member fair flaw faultDue leadIn utf8 ascii encode compact shortest headed item payloads wide enclosed fitsByte be count
 proved-set = refl and refl and refl and refl and refl and refl and refl and refl and refl and refl and refl and tt
+
+-- Arrays of compounds: two small lists, empty lists around one of a null, two maps, two arrays with elements of different kinds, two empty arrays
+unfoldable pub nested : List Example
+nested =
+    example (0xf0 ∷ 2 ∷ 0xd0 ∷ 1 ∷ 0x70 ∷ 1 ∷ 0xd0 ∷ 2 ∷ 0x70 ∷ 2 ∷ 0x70 ∷ 0 ∷ []) [] (0xe0 ∷ 0x17 ∷ 2 ∷ 0xd0 ∷ 0 ∷ 0 ∷ 0 ∷ 6 ∷ 0 ∷ 0 ∷ 0 ∷ 1 ∷ 0x52 ∷ 1 ∷ 0 ∷ 0 ∷ 0 ∷ 7 ∷ 0 ∷ 0 ∷ 0 ∷ 2 ∷ 0x52 ∷ 2 ∷ 0x43 ∷ [])
+    ∷ example (0xf0 ∷ 3 ∷ 0xd0 ∷ 0 ∷ 0xd0 ∷ 1 ∷ 0x40 ∷ 0 ∷ 0xd0 ∷ 0 ∷ []) [] (0xe0 ∷ 0x1b ∷ 3 ∷ 0xd0 ∷ 0 ∷ 0 ∷ 0 ∷ 4 ∷ 0 ∷ 0 ∷ 0 ∷ 0 ∷ 0 ∷ 0 ∷ 0 ∷ 5 ∷ 0 ∷ 0 ∷ 0 ∷ 1 ∷ 0x40 ∷ 0 ∷ 0 ∷ 0 ∷ 4 ∷ 0 ∷ 0 ∷ 0 ∷ 0 ∷ [])
+    ∷ example (0xf0 ∷ 2 ∷ 0xd1 ∷ 2 ∷ 0xb3 ∷ 1 ∷ 0x70 ∷ 2 ∷ 0xd1 ∷ 0 ∷ []) (0x76 ∷ []) (0xe0 ∷ 0x17 ∷ 2 ∷ 0xd1 ∷ 0 ∷ 0 ∷ 0 ∷ 9 ∷ 0 ∷ 0 ∷ 0 ∷ 2 ∷ 0xa3 ∷ 1 ∷ 0x76 ∷ 0x52 ∷ 2 ∷ 0 ∷ 0 ∷ 0 ∷ 4 ∷ 0 ∷ 0 ∷ 0 ∷ 0 ∷ [])
+    ∷ example (0xf0 ∷ 2 ∷ 0xf0 ∷ 1 ∷ 0x50 ∷ 5 ∷ 0xf0 ∷ 2 ∷ 0x56 ∷ 1 ∷ 0x56 ∷ 0 ∷ []) [] (0xe0 ∷ 0x17 ∷ 2 ∷ 0xf0 ∷ 0 ∷ 0 ∷ 0 ∷ 6 ∷ 0 ∷ 0 ∷ 0 ∷ 1 ∷ 0x50 ∷ 5 ∷ 0 ∷ 0 ∷ 0 ∷ 7 ∷ 0 ∷ 0 ∷ 0 ∷ 2 ∷ 0x56 ∷ 1 ∷ 0 ∷ [])
+    ∷ example (0xf0 ∷ 2 ∷ 0xf0 ∷ 0 ∷ 0xf0 ∷ 0 ∷ []) [] (0xe0 ∷ 0x12 ∷ 2 ∷ 0xf0 ∷ 0 ∷ 0 ∷ 0 ∷ 4 ∷ 0 ∷ 0 ∷ 0 ∷ 0 ∷ 0 ∷ 0 ∷ 0 ∷ 4 ∷ 0 ∷ 0 ∷ 0 ∷ 0 ∷ [])
+    ∷ []
+
+pub nested-set : Written nested
+unfolding nested bytesOf table tree row several letter spent allowed ranged letters children firstIn next styleOf lookup kinds isKind member fair flaw faultDue leadIn ascii encode compact shortest headed item payloads wide enclosed fitsByte be count
+nested-set = refl and refl and refl and refl and refl and tt
+
+-- an element unlike the first, and a described one, are refused at their rows
+unlike : (size 32 (0xf0 ∷ 2 ∷ 0xd0 ∷ 0 ∷ 0xd1 ∷ 0 ∷ []) [] ≡ refuse 4 (at 2)) × (size 32 (0xf0 ∷ 1 ∷ 0x00 ∷ 2 ∷ []) [] ≡ refuse 4 (at 1))
+unfolding size bytesOf table tree row several letter spent allowed ranged letters children firstIn next styleOf lookup kinds isKind member fair flaw
+unlike = (refl, refl)
 
 -- Reading, by measuring: a value's length, rows and text, or the refusal
 
@@ -111,13 +130,37 @@ reading : map (measure 32) inputs ≡ answers
 unfolding inputs answers fits lookup spell faultDue leadIn utf8 ascii codes entryOf isCode filled element fair flaw paired tall text extend negative cut plain leaf many done fields held items inside coded behind payload value front measure
 reading = refl
 
+-- an array with element code c0 reads to its lists: the first holds a null, the second nothing
+shortElements : read 32 (0xe0 ∷ 7 ∷ 2 ∷ 0xc0 ∷ 2 ∷ 1 ∷ 0x40 ∷ 1 ∷ 0 ∷ []) (replicate 8 0xff) [] ≡ record { answer = fits 9 4 0; words = 0xf0 ∷ 2 ∷ 0xd0 ∷ 1 ∷ 0x40 ∷ 0 ∷ 0xd0 ∷ 0 ∷ []; letters = [] }
+unfolding fits read readInto lookup spell codes entryOf isCode filled element fair flaw paired tall rows text cut plain leaf many done fields held items inside coded behind payload value front
+shortElements = refl
+
+-- in an array, at any depth, a refusal has the outermost array's place: a bad boolean in an array in an array in a list; an unknown code, an odd map, a byte
+-- left, a size too small and one too large in an element; the empty list's own code, whose payload is empty, is no element code
+nestedFaults : map (measure 32) (
+    (0xc0 ∷ 9 ∷ 1 ∷ 0xe0 ∷ 6 ∷ 1 ∷ 0xe0 ∷ 3 ∷ 1 ∷ 0x56 ∷ 2 ∷ [])
+    ∷ (0xe0 ∷ 5 ∷ 1 ∷ 0xc0 ∷ 2 ∷ 1 ∷ 0x46 ∷ [])
+    ∷ (0xe0 ∷ 5 ∷ 1 ∷ 0xc1 ∷ 2 ∷ 1 ∷ 0x40 ∷ [])
+    ∷ (0xe0 ∷ 6 ∷ 1 ∷ 0xc0 ∷ 3 ∷ 1 ∷ 0x40 ∷ 0x40 ∷ [])
+    ∷ (0xe0 ∷ 4 ∷ 1 ∷ 0xc0 ∷ 0 ∷ 0 ∷ [])
+    ∷ (0xe0 ∷ 4 ∷ 1 ∷ 0xc0 ∷ 2 ∷ 0 ∷ 0x40 ∷ [])
+    ∷ (0xe0 ∷ 2 ∷ 1 ∷ 0x45 ∷ [])
+    ∷ []) ≡ refuse 11 (at 3) ∷ refuse 10 (at 0) ∷ refuse 12 (at 0) ∷ refuse 12 (at 0) ∷ refuse 12 (at 0) ∷ refuse 9 (at 0) ∷ refuse 4 (at 0) ∷ []
+unfolding fits lookup spell codes entryOf isCode filled element fair flaw paired extend negative cut plain leaf many done fields held items inside coded behind payload value front measure
+nestedFaults = refl
+
+-- an array at level 31: an empty list is its element at level 32, but a list with a child is not
+nestedLevels : map (λ r. measure 32 (replicate 30 0x00 ++ r)) ((0xe0 ∷ 4 ∷ 1 ∷ 0xc0 ∷ 1 ∷ 0 ∷ []) ∷ (0xe0 ∷ 5 ∷ 1 ∷ 0xc0 ∷ 2 ∷ 1 ∷ 0x40 ∷ []) ∷ []) ≡ refuse 9 (at 36) ∷ refuse 3 (at 30) ∷ []
+unfolding lookup spell codes entryOf isCode filled element paired cut plain leaf many done fields held items inside coded behind payload value front measure fair flaw tall text
+nestedLevels = refl
+
 -- lists, one in the other: 32 are written to 94 bytes, and the 33rd is too deep, at its row
 nest : ℕ → List ℕ
 nest zero = 0xd0 ∷ 0 ∷ []
 nest (suc n) = 0xd0 ∷ 1 ∷ nest n
 
 deep : (size 32 (nest 31) [] ≡ got 94) × (size 32 (nest 32) [] ≡ refuse 3 (at 32))
-unfolding nest size bytesOf table tree row several letter spent allowed ranged letters children firstIn next styleOf lookup kinds isKind plainStyle fair flaw encode compact shortest headed item payloads wide enclosed fitsByte be count
+unfolding nest size bytesOf table tree row several letter spent allowed ranged letters children firstIn next styleOf lookup kinds isKind member fair flaw encode compact shortest headed item payloads wide enclosed fitsByte be count
 deep = (refl, refl)
 
 -- at level 32 a map's odd count is seen before the missing child; an array of count 0 is no fault, one of count 1 is too deep at its own place
@@ -162,7 +205,7 @@ listed = refl
 
 -- the longest text of the short form, and the shortest of the wide one
 limits : (size 32 (0xb0 ∷ 254 ∷ []) (replicate 254 0) ≡ got 256) × (size 32 (0xb0 ∷ 255 ∷ []) (replicate 255 0) ≡ got 260)
-unfolding size bytesOf table tree row several letter spent allowed ranged letters children firstIn next styleOf lookup kinds isKind plainStyle fair flaw encode compact shortest headed item payloads wide enclosed fitsByte be count
+unfolding size bytesOf table tree row several letter spent allowed ranged letters children firstIn next styleOf lookup kinds isKind member fair flaw encode compact shortest headed item payloads wide enclosed fitsByte be count
 limits = (refl, refl)
 
 -- 54 ff is −1, and 54 7f is 127

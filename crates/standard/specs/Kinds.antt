@@ -90,15 +90,15 @@ isKind (arrayed s) = true
 isKind describing = true
 
 -- may a row of that style be an element of an array (docs/FORMAT.md, 2.6)
-unfoldable pub plain : Style → Bool
-plain foreign = false
-plain (numbered s w) = leb 1 w
-plain (blob w) = leb 1 w
-plain (lettered s) = true
-plain (listed e s) = false
-plain (mapped s) = false
-plain (arrayed s) = false
-plain describing = false
+unfoldable pub member : Style → Bool
+member foreign = false
+member (numbered s w) = leb 1 w
+member (blob w) = leb 1 w
+member (lettered s) = true
+member (listed e s) = true
+member (mapped s) = true
+member (arrayed s) = true
+member describing = false
 
 -- Numbers and texts by kind, whether written or read (docs/FORMAT.md, 2.3 and 2.4)
 

@@ -8,7 +8,7 @@ use lib.ListN.{length, take, drop}
 use Rattle.standard.specs.Answer.{Answer, got, refuse, at, _>>=_, _>>_, need, rowsAmiss, kindUnknown, tooDeep, elementUnfit, numberOutside, textAmiss}
 use Rattle.standard.specs.Utf8.{GoodText}
 use Rattle.standard.specs.Tree.{Tree, node, Trees, none, more, root, count}
-use Rattle.standard.specs.Kinds.{Style, foreign, numbered, blob, lettered, listed, mapped, arrayed, describing, styleOf, isKind, plain, fair, clean}
+use Rattle.standard.specs.Kinds.{Style, foreign, numbered, blob, lettered, listed, mapped, arrayed, describing, styleOf, isKind, member, fair, clean}
 
 -- the writer's limit on lengths, counts and bytes (docs/FORMAT.md, 2.7)
 abbrev pub most : ℕ
@@ -21,7 +21,7 @@ pub data Spot : Type 0 where
 
 unfoldable pub allowed : Spot → (kind : ℕ) → Bool
 allowed any k = true
-allowed first k = plain (styleOf k)
+allowed first k = member (styleOf k)
 allowed (like j) k = eqb k j
 
 -- is a number in the table's range for its kind

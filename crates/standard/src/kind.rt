@@ -2,7 +2,7 @@
 ghost use mathlib.Core.Path.{_≡_};
 ghost use Prim.Native.Nat.{_-_, _^_, _≤_};
 ghost use lib.Dec.{ltb};
-ghost use Rattle.standard.specs.Kinds.{styleOf, isKind, plain, fair};
+ghost use Rattle.standard.specs.Kinds.{styleOf, isKind, member, fair};
 ghost use Rattle.standard.specs.Encode.{fitsByte};
 ghost use Rattle.standard.specs.Table.{ranged, letters, children};
 ghost use Rattle.standard.specs.InCode.{styleIs};
@@ -166,17 +166,17 @@ impl Style {
     }
 
     // May a row of this style be an element of an array.
-    pub fn is_plain(self) -> bool
-        ensures { λ r. ⌜ r ≡ plain (styleIs self) ⌝ }
+    pub fn is_member(self) -> bool
+        ensures { λ r. ⌜ r ≡ member (styleIs self) ⌝ }
     {
         match self {
             Style::Foreign => false,
             Style::Numbered(_, width) => 1 <= width,
             Style::Blob(width) => 1 <= width,
             Style::Lettered(_) => true,
-            Style::Listed(_, _) => false,
-            Style::Mapped(_) => false,
-            Style::Arrayed(_) => false,
+            Style::Listed(_, _) => true,
+            Style::Mapped(_) => true,
+            Style::Arrayed(_) => true,
             Style::Describing => false,
         }
     }

@@ -1,5 +1,5 @@
--- A value is its head, its text and its body; an element of an array is its number and its text.
-use Prim.Native.Nat.{ℕ, _+_, _-_, _^_, _≤_, _<_}
+-- A value is its head, its text and its body, and so is an element of an array.
+use Prim.Native.Nat.{ℕ, _+_, _≤_, _<_}
 use mathlib.Core.Path.{_≡_, refl, ap, _∙_}
 use mathlib.Core.List.{List, [], _∷_, _++_, append-nil}
 use mathlib.Core.Bool.{Bool, true, false, not, _||_}
@@ -7,16 +7,15 @@ use native.Mathlib.Omega.{arith}
 use lib.Dec.{T, eqb, leb, ltb, eqb→eq, ltb→lt, leb→le, lit≤}
 use lib.ListN.{length, length-append}
 use Rattle.standard.specs.Choose.{if}
-use Rattle.standard.specs.Bytes.{be, unbe, spell}
+use Rattle.standard.specs.Bytes.{be}
 use Rattle.standard.specs.Tree.{Trees, none, count}
-use Rattle.standard.specs.Kinds.{Short, never, flag, unsigned, signed, kinds, Style, foreign, numbered, blob, lettered, listed, mapped, arrayed, describing, styleOf, isKind, plain}
+use Rattle.standard.specs.Kinds.{Short, never, flag, unsigned, signed, kinds, Style, foreign, numbered, blob, lettered, listed, mapped, arrayed, describing, styleOf, isKind, member}
 use Rattle.standard.specs.Table.{letters, children}
 use Rattle.standard.specs.Encode.{fitsByte, shortEnd, shortest, enclosed, compact, wide, headed, encode*, payloads}
-use Rattle.laws.specs.Numbers.{length-be, unbe-be}
+use Rattle.laws.specs.Numbers.{length-be}
 use Rattle.laws.specs.Written.{no-children, no-text}
-use Rattle.writer.specs.Heads.{enclosure, head, itemWidth, bodyOf, headIs}
+use Rattle.writer.specs.Heads.{enclosure, head, itemHead, itemWidth, bodyOf, headIs}
 use Rattle.writer.specs.declared.head.Head.{Head}
-use Rattle.writer.specs.Marks.{markWidth}
 use Rattle.writer.proofs.Tabled.{allKinds, of-kind}
 
 enclosed-head : (s k n : ℕ) (b : List ℕ) → enclosed s k n b ≡ enclosure s k n (length b) ++ b
@@ -26,6 +25,14 @@ enclosed-head s k n b = go (ltb (length b) shortEnd)
     go : (y : Bool) → if y (s ∷ be 1 (1 + length b) ++ be 1 n ++ b) (k ∷ be 4 (4 + length b) ++ be 4 n ++ b) ≡ if y (s ∷ be 1 (1 + length b) ++ be 1 n) (k ∷ be 4 (4 + length b) ++ be 4 n) ++ b
     go true = refl
     go false = refl
+
+pub enclosed-width : (s k n b : ℕ) → length (enclosure s k n b) ≡ if (ltb b shortEnd) 3 9
+unfolding enclosure
+enclosed-width s k n b = go (ltb b shortEnd)
+  where
+    go : (t : Bool) → length (if t (s ∷ be 1 (1 + b) ++ be 1 n) (k ∷ be 4 (4 + b) ++ be 4 n)) ≡ if t 3 9
+    go true = simp (length-append, length-be)
+    go false = simp (length-append, length-be)
 
 no-body : (cs : Trees) → count cs ≡ 0 → encode* cs ≡ []
 unfolding encode*
@@ -52,42 +59,43 @@ compact-head (mapped s) k n t cs i h c = rw (no-text t h) (enclosed-head s k n (
 compact-head (arrayed s) k n t cs i h c = rw (no-text t h) (enclosed-head s k n (headed cs (payloads cs)))
 compact-head describing k n t cs i h c = rw (no-text t h)
 
--- an element is its number in full width and its text
-pub wide-head : (s : Style) (n : ℕ) (t : List ℕ) (cs : Trees) → T (plain s) → length t ≡ letters s n → wide s n t (encode* cs) (headed cs (payloads cs)) ≡ be (itemWidth s) n ++ t
-unfolding plain letters wide itemWidth be
-wide-head foreign n t cs p h = absurd p
-wide-head (numbered s w) n t cs p h = rw (no-text t h, append-nil)
-wide-head (blob w) n t cs p h = refl
-wide-head (lettered s) n t cs p h = refl
-wide-head (listed e s) n t cs p h = absurd p
-wide-head (mapped s) n t cs p h = absurd p
-wide-head (arrayed s) n t cs p h = absurd p
-wide-head describing n t cs p h = absurd p
+-- an element too, in full width
+pub wide-head : (s : Style) (n : ℕ) (t : List ℕ) (cs : Trees) → T (member s) → length t ≡ letters s n → count cs ≡ children s n
+    → wide s n t (encode* cs) (headed cs (payloads cs)) ≡ itemHead s n (length (bodyOf s cs)) ++ (t ++ bodyOf s cs)
+unfolding member letters children wide itemHead bodyOf
+wide-head foreign n t cs p h c = absurd p
+wide-head (numbered s w) n t cs p h c = rw (no-text t h, no-body cs c, append-nil)
+wide-head (blob w) n t cs p h c = rw (no-body cs c, append-nil)
+wide-head (lettered s) n t cs p h c = rw (no-body cs c, append-nil)
+wide-head (listed e s) n t cs p h c = rw (no-text t h)
+wide-head (mapped s) n t cs p h c = rw (no-text t h)
+wide-head (arrayed s) n t cs p h c = rw (no-text t h)
+wide-head describing n t cs p h c = absurd p
 
-no-elements : (cs : Trees) → count cs ≡ 0 → headed cs (payloads cs) ≡ []
-unfolding headed
-no-elements cs e = rw (no-children cs e)
+pub item-wide : (s : Style) (n b : ℕ) → length (itemHead s n b) ≡ itemWidth s
+unfolding itemHead itemWidth
+item-wide foreign n b = refl
+item-wide (numbered s w) n b = length-be w n
+item-wide (blob w) n b = refl
+item-wide (lettered s) n b = length-be 4 n
+item-wide (listed e s) n b = simp (length-append, length-be)
+item-wide (mapped s) n b = simp (length-append, length-be)
+item-wide (arrayed s) n b = simp (length-append, length-be)
+item-wide describing n b = refl
 
--- a mark says how long a body is: where there is none, the body is empty
-marked-body : (n : ℕ) (b : List ℕ) → (n ≡ 0 → b ≡ []) → length b < 256 ^ 3 → unbe (be (if (eqb n 0) 0 3) (length b)) ≡ length b
-unfolding be spell
-marked-body n b f h = go (eqb n 0) refl
+pub empty-body : (s : Style) (cs : Trees) → count cs ≡ 0 → bodyOf s cs ≡ []
+unfolding bodyOf headed encode*
+empty-body s cs e = rw (no-children cs e) (go s)
   where
-    go : (y : Bool) → eqb n 0 ≡ y → unbe (be (if y 0 3) (length b)) ≡ length b
-    go true e = rw (f (eqb→eq n 0 (rw e tt)))
-    go false e = unbe-be 3 (length b) h
-
--- so a head can be written from the mark
-pub marked-head : (s : Style) (k n : ℕ) (cs : Trees) → count cs ≡ children s n → length (bodyOf s cs) < 256 ^ 3 → head s k n (unbe (be (markWidth s n) (length (bodyOf s cs)))) ≡ head s k n (length (bodyOf s cs))
-unfolding markWidth head children bodyOf
-marked-head foreign k n cs c h = refl
-marked-head (numbered s w) k n cs c h = refl
-marked-head (blob w) k n cs c h = refl
-marked-head (lettered s) k n cs c h = refl
-marked-head (listed e s) k n cs c h = rw (marked-body n (encode* cs) (λ z. no-body cs (c ∙ z)) h)
-marked-head (mapped s) k n cs c h = rw (marked-body n (encode* cs) (λ z. no-body cs (c ∙ z)) h)
-marked-head (arrayed s) k n cs c h = rw (marked-body n (headed cs (payloads cs)) (λ z. no-elements cs (c ∙ z)) h)
-marked-head describing k n cs c h = refl
+    go : (s : Style) → bodyOf s none ≡ []
+    go foreign = refl
+    go (numbered s w) = refl
+    go (blob w) = refl
+    go (lettered s) = refl
+    go (listed e s) = refl
+    go (mapped s) = refl
+    go (arrayed s) = refl
+    go describing = refl
 
 -- every kind is a byte
 byteKind : ℕ → Style → Bool

@@ -18,11 +18,9 @@ use Rattle.laws.specs.Numbers.{length-be}
 use Rattle.standard.proofs.Lookup.{Rest}
 use Rattle.writer.specs.Heads.{head}
 use Rattle.writer.specs.Marks.{markWidth}
-use Rattle.writer.specs.Filling.{elementsOf, elementCode, isNumber, isLettered, isListOrMap, numberHead, compoundHead, lettersRow, Put, behind, kindAt, numberAt, lettersAt, markAt, dueAt, ownAt, Ready, Stepped}
-use Rattle.writer.specs.declared.filling.Cursor.{Cursor}
+use Rattle.writer.specs.Direct.{isNumber, isLettered, isListOrMap, numberHead, compoundHead, lettersRow, Put}
 use Rattle.writer.proofs.Tabled.{kindsOnto, other}
 use Rattle.laws.specs.Stores.{put-on}
-use Rattle.writer.proofs.Rows.{value-row}
 
 -- A code and a number behind it
 
@@ -79,21 +77,20 @@ no-compound k j n b z h = rw (ne-eqb n 0 z, other isListOrMap refl k h)
 
 -- Rows that are written at once
 
--- a front is all of the head and the text, and there is no element code; so many bytes are text, and the mark has that width
+-- a front is all of the head and the text; so many bytes are text, and the mark has that width
 pub record Sole (s : Style) (kind number body : ℕ) (text front : List ℕ) (count width : ℕ) : Type 0 where
   pub ahead : front ≡ head s kind number body ++ take count text
   pub texts : count ≡ letters s number
-  pub elements : 0 ≡ elementsOf s number
   pub mark : width ≡ markWidth s number
 
 -- that, or no front at all
-abbrev Front : Style → (kind number body : ℕ) → (text front : List ℕ) → (count width : ℕ) → Type 0
+abbrev pub Front : Style → (kind number body : ℕ) → (text front : List ℕ) → (count width : ℕ) → Type 0
 Front s k n b x f l w = (f ≡ []) ⊎ Sole s k n b x f l w
 
 pub number-front : (s : Style) (k n b : ℕ) (x : List ℕ) → Front s k n b x (numberHead s k n) 0 0
-unfolding numberHead head letters elementsOf markWidth
+unfolding numberHead head letters markWidth
 number-front foreign k n b x = inl refl
-number-front (numbered s w) k n b x = inr (record { ahead = sym (append-nil _); texts = refl; elements = refl; mark = refl })
+number-front (numbered s w) k n b x = inr (record { ahead = sym (append-nil _); texts = refl; mark = refl })
 number-front (blob w) k n b x = inl refl
 number-front (lettered s) k n b x = inl refl
 number-front (listed e s) k n b x = inl refl
@@ -102,13 +99,13 @@ number-front (arrayed s) k n b x = inl refl
 number-front describing k n b x = inl refl
 
 full-compound : (s : Style) (k n b : ℕ) (x : List ℕ) → eqb n 0 ≡ false → Front s k n b x (compoundHead s k n b) 0 3
-unfolding compoundHead head letters elementsOf markWidth
+unfolding compoundHead head letters markWidth
 full-compound foreign k n b x q = inl (rw q)
 full-compound (numbered s w) k n b x q = inl (rw q)
 full-compound (blob w) k n b x q = inl (rw q)
 full-compound (lettered s) k n b x q = inl (rw q)
-full-compound (listed e s) k n b x q = inr (record { ahead = rw (q, append-nil); texts = refl; elements = refl; mark = rw q })
-full-compound (mapped s) k n b x q = inr (record { ahead = rw (q, append-nil); texts = refl; elements = refl; mark = rw q })
+full-compound (listed e s) k n b x q = inr (record { ahead = rw (q, append-nil); texts = refl; mark = rw q })
+full-compound (mapped s) k n b x q = inr (record { ahead = rw (q, append-nil); texts = refl; mark = rw q })
 full-compound (arrayed s) k n b x q = inl (rw q)
 full-compound describing k n b x q = inl (rw q)
 
@@ -121,55 +118,21 @@ compound-front s k n b x = go (eqb n 0) refl
     go false q = full-compound s k n b x q
 
 pub letters-front : (s : Style) (k n b : ℕ) (x : List ℕ) → Front s k n b x (lettersRow s k n x) n 0
-unfolding lettersRow head letters elementsOf markWidth
+unfolding lettersRow head letters markWidth
 letters-front foreign k n b x = inl refl
 letters-front (numbered s w) k n b x = inl refl
 letters-front (blob w) k n b x = inl refl
-letters-front (lettered s) k n b x = inr (record { ahead = refl; texts = refl; elements = refl; mark = refl })
+letters-front (lettered s) k n b x = inr (record { ahead = refl; texts = refl; mark = refl })
 letters-front (listed e s) k n b x = inl refl
 letters-front (mapped s) k n b x = inl refl
 letters-front (arrayed s) k n b x = inl refl
 letters-front describing k n b x = inl refl
 
 pub described-front : (k n b : ℕ) (x : List ℕ) → k ≡ 0 → Front (styleOf k) (k % 256) n b x (0 ∷ []) 0 0
-unfolding styleOf lookup kinds head letters elementsOf markWidth
-described-front k n b x e = rw e (inr (record { ahead = refl; texts = refl; elements = refl; mark = refl }))
+unfolding styleOf lookup kinds head letters markWidth
+described-front k n b x e = rw e (inr (record { ahead = refl; texts = refl; mark = refl }))
 
 -- where nothing was stored, nothing changed
 pub unput : (f l : List ℕ) (at : ℕ) (m : List ℕ) (r : ℕ) → Put f l at m r → r ≤ 0 → m ≡ l
 unput [] l at m r p h = p .stored
 unput (b ∷ f) l at m r p h = absurd (omega (arith, p .size))
-
--- a front at a cursor where no elements are due, once the output is known to be as it was
-module _ (words text out : List ℕ) (n : ℕ) (c : Cursor) (h : Ready words text out n c) (z : c .elements ≡ 0) (small : (length text < 2 ^ 64) × (length out < 2 ^ 64)) (o : List ℕ) (e : o ≡ out) (f : List ℕ) (l w : ℕ)
-    (front : Front (styleOf (kindAt words c)) (kindAt words c % 256) (numberAt words c) (unbe (take w (drop (c .mark) o))) (drop (c .text) text) f l w) where
-  -- the front is the row's bytes
-  record Whole : Type 0 where
-    pub bytes : ownAt words text out n c ≡ f
-    pub texts : lettersAt words c ≡ l
-    pub mark : markAt words c ≡ w
-    pub behind : dueAt words c ≡ 0
-
-  sole : Sole (styleOf (kindAt words c)) (kindAt words c % 256) (numberAt words c) (unbe (take w (drop (c .mark) o))) (drop (c .text) text) f l w → Whole
-  unfolding elementCode
-  sole s =
-      let b = unbe (take w (drop (c .mark) o)) in
-      let g = head (styleOf (kindAt words c)) (kindAt words c % 256) (numberAt words c) b in
-      let r = value-row words text out n c h small (styleOf (kindAt words c)) refl l (s .texts) w z 0 b (length g) g (s .mark) (s .elements) (rw e) refl refl in
-      record { bytes = r .bytes ∙ append-nil (g ++ take l (drop (c .text) text)) ∙ sym (s .ahead); texts = r .texts; mark = r .mark; behind = r .behind }
-
-  pub front-fits : c .at + length f ≤ length o
-  front-fits = rw e (⊎-elim (λ i. rw i (omega (arith, h .room))) (λ s. omega (arith, h .room, ap length (sole s .bytes))) front)
-
-  module _ (after : List ℕ) (r : ℕ) (p : Put f o (c .at) after r) (i : 0 < r) where
-    whole : Whole
-    whole = ⊎-elim (λ j. absurd (omega (arith, p .size, ap length j))) (λ s. sole s) front
-
-    pub front-behind : length words < 2 ^ 64 → (c .row + 1 < 2 ^ 64) × (c .text + l < 2 ^ 64) × (c .at + r < 2 ^ 64) × (c .mark + w < 2 ^ 64)
-    front-behind j =
-        (omega (arith, h .row), omega (arith, h .texts, whole .texts, small), omega (arith, p .size, front-fits, ap length e, small), omega (arith, h .marked, h .inside, whole .mark, small))
-
-    pub front-stepped : (d : Cursor) → d ≡ behind c r l w → Stepped words text out n c after d
-    front-stepped d j =
-        let v = whole in
-        rw j (record { bytes = rw (v .bytes) (rw e at (p .stored)); row = refl; from = rw (v .texts); place = rw (v .bytes) (ap (λ t. c .at + t) (p .size)); mark = rw (v .mark); elements = sym (v .behind) })

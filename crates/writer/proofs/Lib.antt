@@ -1,10 +1,12 @@
 pub mod Tabled
 pub mod Bodies
-pub mod Flat
+pub mod Joined
+pub mod Spots
 pub mod Checks
 pub mod Stores
-pub mod Rows
 pub mod Direct
+pub mod Rows
+pub mod Cursors
 pub mod Sums
 pub mod Sizes
 pub mod Plain

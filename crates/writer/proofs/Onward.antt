@@ -1,730 +1,447 @@
--- Marking, row after row: whatever buffer was to be made from a point on is made from the next one on.
-use Prim.Native.Nat.{ℕ, zero, suc, _+_, _*_, _-_, _%_, _^_, _≤_, _<_}
+-- Marking, row after row: whatever was to be made from a point on is made from the next one on.
+use Prim.Native.Nat.{ℕ, zero, suc, _+_, _*_, _-_, _/_, _%_, _^_, _≤_, _<_}
 use mathlib.Core.Path.{_≡_, refl, sym, ap, _∙_, subst}
 use mathlib.Core.List.{List, [], _∷_, _++_, append-nil, append-assoc}
-use mathlib.Core.Bool.{Bool, true, false, _&&_}
-use native.Mathlib.Nat.{mod-eq-of-lt}
+use mathlib.Core.Bool.{Bool, true, false}
+use mathlib.Core.Logic.{⊎-elim}
+use native.Mathlib.Nat.{add-zero, add-suc, suc-add, mod-eq-of-lt}
 use native.Mathlib.Omega.{arith}
 use borrow.Author.Tests.{lt-ltb, ne-eqb}
-use lib.Dec.{T, eqb, eqb→eq, ltb, ltb→lt}
+use mir.Val.{boolByte}
+use lib.Dec.{T, eqb, eqb→eq, eqb·suc-zero, ltb}
 use lib.ListN.{length, drop, getD, set, length-append, length-drop, length-set}
-use lib.Seq.{sets, length-sets, drop-drop, drop-at, getD-set-same, getD-set-other}
-use Rattle.standard.specs.Choose.{lookup}
+use lib.Seq.{sets, length-sets, getD-drop, drop-drop, getD-set-same, getD-set-other}
+use Rattle.standard.specs.Choose.{if, lookup}
 use Rattle.standard.specs.Bytes.{be}
-use Rattle.standard.specs.Tree.{Tree, node, Trees, none, more, root, count, rows, rows*}
-use Rattle.standard.specs.Kinds.{Style, foreign, numbered, blob, lettered, listed, mapped, arrayed, describing, kinds, styleOf, isKind}
-use Rattle.standard.specs.Table.{most, Spot, any, first, ranged, letters, children, firstIn, next, Row, All, Valid}
-use Rattle.standard.specs.Encode.{shortEnd, encode, encode*, item, payloads, headed}
+use Rattle.standard.specs.Tree.{Tree, node, Trees, none, more, count, rows, rows*}
+use Rattle.standard.specs.Kinds.{Style, foreign, numbered, blob, lettered, listed, mapped, arrayed, describing, kinds, styleOf, isKind, member}
+use Rattle.standard.specs.Table.{most, Spot, any, first, like, ranged, letters, children, firstIn, next, Row, All, Valid}
+use Rattle.standard.specs.Encode.{shortEnd, encode, encode*, payloads, headed}
 use Rattle.standard.specs.Outcomes.{levelMost}
-use Rattle.standard.specs.Facts.{if-case}
+use Rattle.standard.specs.Facts.{T-true, if-case}
 use Rattle.laws.specs.Numbers.{length-be}
 use Rattle.laws.specs.Stores.{sets-append}
-use Rattle.laws.specs.Written.{no-children}
 use Rattle.standard.proofs.Lookup.{Rest}
-use Rattle.writer.specs.Heads.{head, itemWidth, bodyOf}
+use Rattle.writer.specs.Heads.{head, itemWidth, bodyOf, Mode, values, elements, modeOf, headIn, written*}
+use Rattle.writer.specs.Direct.{numberHead}
 use Rattle.writer.specs.Marks.{markWidth, marks, marks*}
-use Rattle.writer.specs.Filling.{elementsOf, isListOrMap, numberHead}
-use Rattle.writer.specs.Sizing.{Sure}
-use Rattle.writer.specs.Marking.{boxes, boxWidth, Opened, whole, inside, rowsBehind, marksBehind, sizeOfAll, marksOfAll, Held, Due, Going, Onward, toGo, fromStart, beyond, entered, closed, overArray, Elements, SomeElements, Markable}
+use Rattle.writer.specs.Marking.{boxes, boxWidth, modeIs, kindOn, numberOn, bare, due, startOn, placeOn, leftOn, elementsOn, fromStart, beyond, closed, taken, stacked, Ready, Complete, Markable}
 use Rattle.writer.specs.declared.marking.Point.{Point}
-use Rattle.writer.proofs.Tabled.{allKinds, of-kind, kindsOnto, other}
-use Rattle.writer.proofs.Bodies.{compact-head, wide-head, kind-small}
-use Rattle.writer.proofs.Flat.{plain-leaf}
-use Rattle.writer.proofs.Checks.{row-words}
+use Rattle.writer.proofs.Tabled.{kindsOnto, other}
+use Rattle.writer.proofs.Bodies.{enclosed-width, item-wide, item-short, head-short, kind-small}
+use Rattle.writer.proofs.Direct.{number-front}
+use Rattle.writer.proofs.Joined.{join, count-join, rows-join, marks-join, size-join, valid-join, deeper*, few}
+use Rattle.writer.proofs.Spots.{Sure, sure-first, sure-next, next-mode, element-fits, row-bytes}
+use Rattle.writer.proofs.Checks.{not-true}
 use Rattle.writer.proofs.Stores.{sets-swap}
-use Rattle.writer.proofs.Sums.{sure-next}
-use Rattle.writer.proofs.Turns.{enclosed-width, Inner, inner-next, inner-plain, items-unmarked}
+use Rattle.writer.proofs.Sizes.{named, is-named, between}
+use Rattle.writer.proofs.Sums.{more-size, elements-size}
 
--- Values before others
+-- How far marking has come: the bytes so far, the place of the next mark, and the buffer
 
-join : Trees → Trees → Trees
-join none vs = vs
-join (more v us) vs = more v (join us vs)
+pub record Reach : Type 0 where
+  pub size : ℕ
+  pub mark : ℕ
+  pub buffer : List ℕ
 
-count-join : (us vs : Trees) → count (join us vs) ≡ count us + count vs
-unfolding join count
-count-join none vs = omega arith
-count-join (more v us) vs = omega (arith, count-join us vs)
+abbrev pub reach : (size mark : ℕ) → (buffer : List ℕ) → Reach
+reach z m o = record { size = z; mark = m; buffer = o }
 
-rows-join : (us vs : Trees) → rows* (join us vs) ≡ rows* us ++ rows* vs
-unfolding join rows*
-rows-join none vs = refl
-rows-join (more v us) vs = rw (rows-join us vs) (sym (append-assoc (rows v) (rows* us) (rows* vs)))
+reach-is : {z z′ m m′ : ℕ} {o o′ : List ℕ} → z ≡ z′ → m ≡ m′ → o ≡ o′ → reach z m o ≡ reach z′ m′ o′
+reach-is a b c = rw (a, b, c)
 
-marks-join : (us vs : Trees) → marks* (join us vs) ≡ marks* us ++ marks* vs
-unfolding join marks*
-marks-join none vs = refl
-marks-join (more v us) vs = rw (marks-join us vs) (sym (append-assoc (marks v) (marks* us) (marks* vs)))
+-- behind several rows
+abbrev pub over : Mode → Trees → Reach → Reach
+over m vs e = reach (e .size + length (written* m vs)) (e .mark + length (marks* vs)) (sets (e .buffer) (e .mark) (marks* vs))
 
-size-join : (us vs : Trees) → length (encode* (join us vs)) ≡ length (encode* us) + length (encode* vs)
-unfolding join encode*
-size-join none vs = omega arith
-size-join (more v us) vs = omega (arith, length-append (encode v) (encode* (join us vs)), length-append (encode v) (encode* us), size-join us vs)
+-- behind a compound, from its last child on
+abbrev pub shut : Mode → (start place : ℕ) → Reach → Reach
+shut m s p e = reach (e .size + boxWidth m (e .size - s)) (e .mark) (sets (e .buffer) p (be 3 (e .size - s)))
 
-valid-join : (l : ℕ) (us vs : Trees) → All (λ d v. Valid l d v) any us → All (λ d v. Valid l d v) any vs → All (λ d v. Valid l d v) any (join us vs)
-unfolding join next
-valid-join l none vs h i = i
-valid-join l (more v us) vs h i = (h .0, valid-join l us vs (h .1) i)
+none-over : (m : Mode) (e : Reach) → over m none e ≡ e
+unfolding encode* payloads marks*
+none-over values e = reach-is (omega arith) (omega arith) refl
+none-over elements e = reach-is (omega arith) (omega arith) refl
 
--- more levels
+-- What is due
 
-mutual
-  deeper : (v : Tree) (l : ℕ) (c : Spot) → Valid l c v → Valid (suc l) c v
-  deeper (node k n t cs) zero c h = absurd h
-  deeper (node k n t cs) (suc l) c h = (h .0, deeper* cs l (firstIn (styleOf k) n) (h .1))
+-- so many rows, of at most so many levels
+pub record Run (levels left : ℕ) (b : Bool) (c : Spot) (vs : Trees) : Type 0 where
+  pub full : count vs ≡ left
+  pub valid : All (λ d v. Valid levels d v) c vs
+  pub sure : Sure c
+  pub mode : modeOf c ≡ modeIs b
 
-  deeper* : (vs : Trees) (l : ℕ) (c : Spot) → All (λ d v. Valid l d v) c vs → All (λ d v. Valid (suc l) d v) c vs
-  deeper* none l c h = tt
-  deeper* (more v vs) l c h = (deeper v l c (h .0), deeper* vs l (next c (root v)) (h .1))
+-- The compounds that are open, by their numbers on the stack, and the rows behind each: from e at the end of the innermost it goes on to z
+pub data Held (st : List ℕ) (z : Reach) : (top levels : ℕ) → (words : List ℕ) → Reach → Type 0 where
+  whole : length st ≡ 3 * levelMost → z .size ≤ most → z .mark ≤ length (z .buffer) → Held st z 0 levelMost [] z
+  inside : {top l : ℕ} {e : Reach} (c : Spot) (vs : Trees) (u : List ℕ) → 3 ≤ top → Run (suc l) (leftOn st top) (elementsOn st top) c vs → startOn st top ≤ e .size → placeOn st top + 3 ≤ length (e .buffer)
+      → Held st z (top - 3) (suc l) u (over (modeIs (elementsOn st top)) vs (shut (modeIs (elementsOn st top)) (startOn st top) (placeOn st top) e))
+      → Held st z top l (rows* vs ++ u) e
 
--- there are no more values than words
-few : (vs : Trees) → count vs ≤ length (rows* vs)
-unfolding count rows*
-few none = omega arith
-few (more (node k n t cs) vs) = omega (arith, few vs, length-append (rows (node k n t cs)) (rows* vs))
+-- from a point on
+pub record Due (w : List ℕ) (z : Reach) (st o : List ℕ) (c : Point) : Type 0 where
+  pub spot : Spot
+  pub rest : Trees
+  pub levels : ℕ
+  pub behind : List ℕ
+  pub run : Run levels (c .left) (c .elements) spot rest
+  pub rowsAre : drop (2 * (c .row)) w ≡ rows* rest ++ behind
+  pub held : Held st z (c .top) levels behind (over (modeIs (c .elements)) rest (reach (c .size) (c .mark) o))
 
 -- The stack
 
-held-grows : (st : List ℕ) (n : ℕ) (f : Opened) (top l z y : ℕ) → z ≤ y → Held st n f top l z → Held st n f top l y
-held-grows st n whole top l z y h g = g
-held-grows st n (inside vs s p f) top l z y h g =
-    let a = g .0 in
-    (record { high = a .high; start = a .start; place = a .place; left = a .left; valid = a .valid; before = omega (arith, a .before); fits = a .fits }, g .1)
+held-kept : {st a : List ℕ} {z : Reach} {top l : ℕ} {u : List ℕ} {e : Reach} → length a ≡ length st → ((i : ℕ) → i < top → getD a i 0 ≡ getD st i 0) → Held st z top l u e → Held a z top l u e
+held-kept n k (whole h s m) = whole (n ∙ h) s m
+held-kept {top = top} {l = l} {e = e} n k (inside c vs u h r s p g) =
+    let x = k (top - 3) (omega arith) in
+    let y = k (top - 3 + 1) (omega arith) in
+    let t = k (top - 3 + 2) (omega arith) in
+    inside {top = top} {l = l} {e = e} c vs u h (rw t r) (rw x s) (rw y p) (rw (x, y, t) (held-kept n (λ i j. k i (omega arith)) g))
 
-held-kept : (st a : List ℕ) (n : ℕ) (f : Opened) (top l z : ℕ) → ((i : ℕ) → i < top → getD a i 0 ≡ getD st i 0) → Held st n f top l z → Held a n f top l z
-held-kept st a n whole top l z k g = g
-held-kept st a n (inside vs s p f) top l z k g =
-    let b = g .0 in (
+-- sizes and marks only grow, and levels fall as the stack grows
+held-fits : {st : List ℕ} {z : Reach} {top l : ℕ} {u : List ℕ} {e : Reach} → Held st z top l u e
+    → (e .size ≤ most) × (e .mark ≤ length (e .buffer)) × (length (e .buffer) ≡ length (z .buffer)) × (top + 3 * l ≡ 3 * levelMost) × (length st ≡ 3 * levelMost)
+held-fits (whole h s m) = (s, m, refl, refl, h)
+held-fits (inside c vs u h r s p g) = let a = held-fits g in (omega (arith, a .0), omega (arith, simp length-sets at (a .1)), simp length-sets at (a .2), omega (arith, a .3), a .4)
+
+due-back : (n : ℕ) (b : Bool) → (due n b / 2 ≡ n) × (eqb (due n b % 2) 1 ≡ b)
+due-back n true = let e : (2 * n + 1) % 2 ≡ 1 = omega arith in (omega arith, rw e)
+due-back n false = let e : (2 * n + 0) % 2 ≡ 0 = omega arith in (omega arith, rw e)
+
+getD-before : (l xs : List ℕ) (i j : ℕ) → j < i → getD (sets l i xs) j 0 ≡ getD l j 0
+getD-before l [] i j h = refl
+getD-before l (a ∷ xs) i j h = getD-before (set l i a) xs (suc i) j (omega arith) ∙ getD-set-other l i j a 0 (omega arith)
+
+getD-in : (l xs : List ℕ) (i j : ℕ) → j < length xs → i + length xs ≤ length l → getD (sets l i xs) (i + j) 0 ≡ getD xs j 0
+getD-in l [] i j h k = absurd (omega arith)
+getD-in l (a ∷ xs) i zero h k = rw add-zero (getD-before (set l i a) xs (suc i) i (omega arith) ∙ getD-set-same l i a 0 (omega arith))
+getD-in l (a ∷ xs) i (suc j) h k = rw (add-suc, ← suc-add) (getD-in (set l i a) xs (suc i) j (omega arith) (simp length-set (omega arith)))
+
+-- one more of them is open
+held-on : (st : List ℕ) (z : Reach) (top l : ℕ) (u : List ℕ) (e : Reach) (c : Spot) (vs : Trees) (s p n : ℕ) (b : Bool) → top + 3 ≤ length st → Run (suc l) n b c vs → s ≤ e .size → p + 3 ≤ length (e .buffer)
+    → Held st z top (suc l) u (over (modeIs b) vs (shut (modeIs b) s p e)) → Held (sets st top (s ∷ p ∷ due n b ∷ [])) z (top + 3) l (rows* vs ++ u) e
+held-on st z top l u e c vs s p n b h r i j g =
+    let t : top + 3 - 3 ≡ top = omega arith in
+    let a = s ∷ p ∷ due n b ∷ [] in
+    let x = rw add-zero at (getD-in st a top 0 (omega arith) h) in
+    let y = getD-in st a top 1 (omega arith) h in
+    let d = getD-in st a top 2 (omega arith) h in
+    inside {top = top + 3} {l = l} {e = e} c vs u (omega arith) (rw (t, d, due-back n b .0, due-back n b .1) r) (rw (t, x) i) (rw (t, y) j)
+    (rw (t, x, y, d, due-back n b .1) (held-kept (length-sets st top a) (λ k. getD-before st a top k) g))
+
+-- Rows: compounds that are not empty, described values, and those without children
+
+-- a row without a mark: it has no children, or it is a described value, whose children are due in its place
+data Free : Spot → Style → Trees → Type 0 where
+  alone : {c : Spot} {s : Style} → bodyOf s none ≡ [] → Free c s none
+  pair : {cs : Trees} → Free any describing cs
+
+-- a compound that is not empty
+record Boxed (k : ℕ) (s : Style) (n : ℕ) (cs : Trees) : Type 0 where
+  pub is : boxes s n ≡ true
+  pub full : children s n ≡ n
+  pub marked : markWidth s n ≡ 3
+  pub silent : letters s n ≡ 0
+  pub mode : modeOf (firstIn s n) ≡ modeIs (eqb k 0xf0)
+  pub body : length (bodyOf s cs) ≡ boolByte (eqb k 0xf0) + length (written* (modeIs (eqb k 0xf0)) cs)
+  pub coded : (b : ℕ) → length (head s k n b) ≡ boxWidth values b
+  pub bare : itemWidth s ≡ 8
+
+data Class (c : Spot) (k : ℕ) (s : Style) (n : ℕ) (cs : Trees) : Type 0 where
+  free : boxes s n ≡ false → markWidth s n ≡ 0 → count cs ≡ (if (eqb k 0) 2 0) → Free c s cs → Class c k s n cs
+  box : Boxed k s n cs → Class c k s n cs
+
+leaf : (c : Spot) (k : ℕ) (s : Style) (n : ℕ) (cs : Trees) → eqb k 0 ≡ false → count cs ≡ 0 → boxes s n ≡ false → markWidth s n ≡ 0 → bodyOf s none ≡ [] → Class c k s n cs
+unfolding count
+leaf c k s n none t h b m e = free b m (rw t) (alone e)
+leaf c k s n (more v vs) t h b m e = absurd (omega arith)
+
+filled : (c : Spot) (k : ℕ) (s : Style) (n : ℕ) (cs : Trees) (a : Bool) → eqb k 0xf0 ≡ a → modeOf (firstIn s (suc n)) ≡ modeIs a → length (bodyOf s cs) ≡ boolByte a + length (written* (modeIs a) cs) → ((b : ℕ) → length (head s k (suc n) b) ≡ boxWidth values b)
+    → boxes s (suc n) ≡ ltb 0 (suc n) → children s (suc n) ≡ suc n → markWidth s (suc n) ≡ if (eqb (suc n) 0) 0 3 → letters s (suc n) ≡ 0 → itemWidth s ≡ 8 → Class c k s (suc n) cs
+filled c k s n cs a e m b h i f w l u =
+    box (record { is = i ∙ lt-ltb 0 (suc n) (omega arith); full = f; marked = w ∙ rw (eqb·suc-zero n); silent = l; mode = rw e m; body = rw e b; coded = h; bare = u })
+
+classify : (c : Spot) (k : ℕ) (s : Style) (n : ℕ) (cs : Trees) → T (isKind s) → T (named k s) → (modeOf c ≡ elements → T (member s)) → T (ranged s k n) → count cs ≡ children s n → Class c k s n cs
+unfolding isKind named member ranged children markWidth bodyOf letters firstIn modeOf head itemWidth boxWidth encode* payloads headed
+classify c k foreign n cs i t f r h = absurd i
+classify c k (numbered s w) n cs i t f r h = leaf c k (numbered s w) n cs (not-true (eqb k 0) (T-true _ t)) h refl refl refl
+classify c k (blob w) n cs i t f r h = leaf c k (blob w) n cs (not-true (eqb k 0) (T-true _ t)) h refl refl refl
+classify c k (lettered s) n cs i t f r h = leaf c k (lettered s) n cs (not-true (eqb k 0) (T-true _ t)) h refl refl refl
+classify c k (listed e s) zero cs i t f r h = leaf c k (listed e s) zero cs (between k t .0) h refl refl refl
+classify c k (listed e s) (suc n) cs i t f r h = filled c k (listed e s) n cs false (between k t .1) refl (omega arith) (λ b. rw (eqb·suc-zero n) (enclosed-width s k (suc n) b)) refl refl refl refl refl
+classify c k (mapped s) zero cs i t f r h = leaf c k (mapped s) zero cs (between k t .0) h refl refl refl
+classify c k (mapped s) (suc n) cs i t f r h = filled c k (mapped s) n cs false (between k t .1) refl (omega arith) (λ b. enclosed-width s k (suc n) b) refl refl refl refl refl
+classify c k (arrayed s) zero cs i t f r h = leaf c k (arrayed s) zero cs (rw (eqb→eq k 0xf0 t)) h refl refl refl
+classify c k (arrayed s) (suc n) cs i t f r h =
+    filled c k (arrayed s) n cs true (T-true (eqb k 0xf0) t) refl (rw (eqb·suc-zero n) at (elements-size (suc n) cs h)) (λ b. enclosed-width s k (suc n) b) refl refl refl refl refl
+classify any k describing n cs i t f r h = free refl refl (rw (T-true (eqb k 0) t) (h ∙ eqb→eq n 2 r)) pair
+classify first k describing n cs i t f r h = absurd (f refl)
+classify (like j) k describing n cs i t f r h = absurd (f refl)
+
+-- What a row adds
+
+free-size : (c : Spot) (k : ℕ) (s : Style) (n : ℕ) (cs vs : Trees) → Free c s cs
+    → length (headIn (modeOf c) s k n (length (bodyOf s cs))) + (letters s n + length (bodyOf s cs)) + length (written* (modeOf c) vs) ≡ length (headIn (modeOf c) s k n 0) + letters s n + length (written* (modeOf c) (join cs vs))
+unfolding join modeOf head bodyOf letters
+free-size c k s n _ vs (alone e) = rw e (omega arith)
+free-size _ k _ n cs vs pair = omega (arith, size-join cs vs)
+
+free-valid : (c : Spot) (k : ℕ) (s : Style) (n l : ℕ) (cs vs : Trees) → Free c s cs → All (λ d v. Valid l d v) (firstIn s n) cs → All (λ d v. Valid (suc l) d v) (next c k) vs → All (λ d v. Valid (suc l) d v) (next c k) (join cs vs)
+unfolding join firstIn next
+free-valid c k s n l _ vs (alone e) a b = b
+free-valid _ k _ n l cs vs pair a b = valid-join (suc l) cs vs (deeper* cs l any a) b
+
+box-wide : (m : Mode) (k : ℕ) (s : Style) (n : ℕ) (cs : Trees) (b : ℕ) → Boxed k s n cs → length (headIn m s k n b) ≡ boxWidth m b
+unfolding boxWidth
+box-wide values k s n cs b x = x .coded b
+box-wide elements k s n cs b x = item-wide s n b ∙ x .bare
+
+-- a mark is stored behind the marks that follow it
+mark-behind : (o : List ℕ) (p b : ℕ) (xs : List ℕ) → sets (sets o (p + 3) xs) p (be 3 b) ≡ sets o p (be 3 b ++ xs)
+mark-behind o p b xs =
+    let n = length-be 3 b in
+    sets-swap o p (be 3 b) (p + 3) xs (omega (arith, n)) ∙ sym (sets-append o p (be 3 b) xs ∙ rw n)
+
+module _ {m : Mode} (c : Spot) (q : modeOf c ≡ m) (p : Sure c) (k n : ℕ) (t : List ℕ) (cs vs : Trees) (r : Row c k n t cs) where
+  row-size : length (written* m (more (node k n t cs) vs)) ≡ length (headIn m (styleOf k) k n (length (bodyOf (styleOf k) cs))) + (letters (styleOf k) n + length (bodyOf (styleOf k) cs)) + length (written* m vs)
+  row-size = rw (← q) (more-size (modeOf c) (node k n t cs) vs ∙ rw (row-bytes c k n t cs p r) (simp (length-append, r .long)))
+
+  row-marks : marks* (more (node k n t cs) vs) ≡ be (markWidth (styleOf k) n) (length (bodyOf (styleOf k) cs)) ++ marks* cs ++ marks* vs
+  unfolding marks*
+  row-marks = refl
+
+  free-over : (e : Reach) → markWidth (styleOf k) n ≡ 0 → Free c (styleOf k) cs → over m (more (node k n t cs) vs) e ≡ over m (join cs vs) (reach (e .size + bare m k n) (e .mark) (e .buffer))
+  unfolding be
+  free-over e i f =
+      let z : e .size + length (written* m (more (node k n t cs) vs)) ≡ e .size + bare m k n + length (written* m (join cs vs)) =
+      rw (mod-eq-of-lt (kind-small k (r .known))) (omega (arith, row-size, rw q at (free-size c k (styleOf k) n cs vs f))) in
+      rw (z, row-marks, i, marks-join cs vs)
+
+  box-over : (e : Reach) → Boxed k (styleOf k) n cs → over m (more (node k n t cs) vs) e
+      ≡ over m vs (shut m (e .size) (e .mark) (over (modeIs (eqb k 0xf0)) cs (reach (e .size + boolByte (eqb k 0xf0)) (e .mark + 3) (e .buffer))))
+  box-over e x =
+      let b = length (bodyOf (styleOf k) cs) in
+      let i = length-be 3 b in
+      let j = length-append (be 3 b) (marks* cs) in
+      let d : e .size + boolByte (eqb k 0xf0) + length (written* (modeIs (eqb k 0xf0)) cs) - e .size ≡ length (bodyOf (styleOf k) cs) = omega (arith, x .body) in
+      let f : e .mark + length (be 3 (length (bodyOf (styleOf k) cs)) ++ marks* cs) ≡ e .mark + 3 + length (marks* cs) = omega arith in
+      rw (d, row-marks, x .marked, mark-behind (e .buffer) (e .mark) b (marks* cs)) (reach-is
+      (omega (arith, row-size, x .silent, x .body, box-wide m k (styleOf k) n cs b x))
+      (omega (arith, length-append (be 3 b ++ marks* cs) (marks* vs)))
+      (sets-append (e .buffer) (e .mark) (be 3 b ++ marks* cs) (marks* vs) ∙ rw f))
+
+-- Steps
+
+-- what is left of rows and open compounds
+abbrev pub toGo : (words : List ℕ) → Point → ℕ
+toGo w c = 2 * (length w - 2 * (c .row)) + c .top
+
+-- from c to r: it can be done, what was due is due from there on, and less is left
+pub record Step (w : List ℕ) (z : Reach) (c : Point) (asks : Type 0) (st o : List ℕ) (r : Point) : Type 0 where
+  pub can : asks
+  pub due : Due w z st o r
+  pub less : toGo w r < toGo w c
+
+-- two words in front
+pub two : (w : List ℕ) (i k n : ℕ) (u : List ℕ) → drop (2 * i) w ≡ k ∷ n ∷ u → (getD w (2 * i) 0 ≡ k) × (getD w (2 * i + 1) 0 ≡ n) × (2 * i + 2 ≤ length w) × (drop (2 * (i + 1)) w ≡ u)
+two w i k n u e =
+    let j : 2 * (i + 1) ≡ 2 * i + 2 = omega arith in
+    let a : (m : ℕ) → getD w (2 * i + m) 0 ≡ getD (k ∷ n ∷ u) m 0 = λ m. sym (getD-drop (2 * i) w m 0) ∙ ap (λ l. getD l m 0) e in
+    (rw add-zero at (a 0), a 1, omega (arith, ap length e, length-drop (2 * i) w), rw (j, ← drop-drop 2 (2 * i) w, e))
+
+-- no element is a described value
+pub no-pair : (k : ℕ) → T (member (styleOf k)) → ¬ (k ≡ 0)
+unfolding styleOf lookup kinds member
+no-pair k t e = rw e at t
+
+module _ (w : List ℕ) (z : Reach) (st o : List ℕ) (c : Point) (s : Spot) (k n : ℕ) (t : List ℕ) (cs vs : Trees) (l : ℕ) (u : List ℕ)
+    (y : (kindOn w c ≡ k) × (numberOn w c ≡ n) × (2 * (c .row) + 2 ≤ length w) × (drop (2 * (c .row + 1)) w ≡ (rows* cs ++ rows* vs) ++ u))
+    (r : Run (suc l) (c .left) (c .elements) s (more (node k n t cs) vs)) (g : Held st z (c .top) (suc l) u (over (modeIs (c .elements)) (more (node k n t cs) vs) (reach (c .size) (c .mark) o))) where
+  own : Row s k n t cs
+  own = r .valid .0 .0
+
+  fit : modeOf s ≡ elements → T (member (styleOf k))
+  fit = element-fits s k (r .sure) (own .fits)
+
+  behind-run : Run (suc l) (c .left - 1) (c .elements) (next s k) vs
+  unfolding count
+  behind-run = record { full = omega (arith, r .full); valid = r .valid .1; sure = sure-next s k (r .sure) (own .fits); mode = next-mode s k ∙ r .mode }
+
+  onward : Class s k (styleOf k) n cs → Due w z (stacked st c k n) o (taken c k n) × (toGo w (taken c k n) < toGo w c)
+  onward (free b m h f) =
+      let v = behind-run in
+      rw b (
+        record {
+          spot = next s k;
+          rest = join cs vs;
+          levels = suc l;
+          behind = u;
+          run = record { full = omega (arith, count-join cs vs, v .full); valid = free-valid s k (styleOf k) n l cs vs f (r .valid .0 .1) (v .valid); sure = v .sure; mode = v .mode };
+          rowsAre = y .3 ∙ rw (rows-join cs vs);
+          held = rw (free-over s (r .mode) (r .sure) k n t cs vs own (reach (c .size) (c .mark) o) m f) at g;
+        },
+        omega (arith, y .2),
+      )
+  onward (box x) =
+      let h = rw (box-over s (r .mode) (r .sure) k n t cs vs own (reach (c .size) (c .mark) o) x) at g in
+      let a = held-fits h in
+      rw (x .is) (
+        record {
+          spot = firstIn (styleOf k) n;
+          rest = cs;
+          levels = l;
+          behind = rows* vs ++ u;
+          run = record { full = own .full ∙ x .full; valid = r .valid .0 .1; sure = sure-first (styleOf k) n; mode = x .mode };
+          rowsAre = y .3 ∙ append-assoc (rows* cs) (rows* vs) u;
+          held = held-on st z (c .top) l u _ (next s k) vs (c .size) (c .mark) (c .left - 1) (c .elements) (omega arith) behind-run (omega arith) (rw length-sets (omega (arith, simp length-sets at (a .1)))) h;
+        },
+        omega (arith, y .2),
+      )
+
+  stepped : length w * 8 < 2 ^ 63 → length (z .buffer) < 2 ^ 63 → c .left ≤ length w → Step w z c (Ready w c) (stacked st c (kindOn w c) (numberOn w c)) o (taken c (kindOn w c) (numberOn w c))
+  unfolding count
+  stepped i j v =
+      let a = held-fits g in
+      let b = onward (classify s k (styleOf k) n cs (own .known) (is-named k) fit (own .inRange) (own .full)) in
       record {
-        high = b .high;
-        start = k (top - 3) (omega (arith, b .high)) ∙ b .start;
-        place = k (top - 3 + 1) (omega (arith, b .high)) ∙ b .place;
-        left = k (top - 3 + 2) (omega (arith, b .high)) ∙ b .left;
-        valid = b .valid;
-        before = b .before;
-        fits = b .fits;
-      },
-      held-kept st a n f (top - 3) (suc l) s (λ i h. k i (omega (arith, b .high))) (g .1),
-    )
+        can = record {
+          here = y .2;
+          row = omega (arith, y .2);
+          some = omega (arith, r .full);
+          fits = λ e f. no-pair k (fit (r .mode ∙ rw e)) (sym (y .0) ∙ f);
+          room = omega arith;
+          small = rw (y .0, y .1) (omega (arith, row-size s (r .mode) (r .sure) k n t cs vs own));
+          mark = omega arith;
+          left = omega arith;
+        };
+        due = rw (y .0, y .1) (b .0);
+        less = rw (y .0, y .1) (b .1);
+      }
 
--- three numbers on top of it
-pushed : (st : List ℕ) (top a b d : ℕ) → top + 3 ≤ length st → let r = sets st top (a ∷ b ∷ d ∷ []) in
-    (getD r top 0 ≡ a) × (getD r (top + 1) 0 ≡ b) × (getD r (top + 2) 0 ≡ d) × ((i : ℕ) → i < top → getD r i 0 ≡ getD st i 0)
-pushed st top a b d h =
-    let e : top + 1 ≡ suc top = omega arith in
-    let f : top + 2 ≡ suc (suc top) = omega arith in
-    rw (e, f) (
-      getD-set-other (set (set st top a) (suc top) b) (suc (suc top)) top d 0 (omega arith) ∙ getD-set-other (set st top a) (suc top) top b 0 (omega arith) ∙ getD-set-same st top a 0 (omega arith),
-      getD-set-other (set (set st top a) (suc top) b) (suc (suc top)) (suc top) d 0 (omega arith) ∙ getD-set-same (set st top a) (suc top) b 0 (simp length-set (omega arith)),
-      getD-set-same (set (set st top a) (suc top) b) (suc (suc top)) d 0 (simp length-set (omega arith)),
-      λ i g. getD-set-other (set (set st top a) (suc top) b) (suc (suc top)) i d 0 (omega arith) ∙ getD-set-other (set st top a) (suc top) i b 0 (omega arith) ∙ getD-set-other st top i a 0 (omega arith),
-    )
+module _ {w : List ℕ} {z : Reach} {st o : List ℕ} {c : Point} (d : Due w z st o c) where
+  pub left-small : (c .left ≤ length w) × (c .top ≤ 3 * levelMost)
+  left-small =
+      let a = held-fits (d .held) in
+      (omega (arith, d .run .full, few (d .rest), ap length (d .rowsAre), length-append (rows* (d .rest)) (d .behind), length-drop (2 * (c .row)) w), omega arith)
 
--- store by store
+  -- a row is due
+  pub turn : 0 < c .left → length w * 8 < 2 ^ 63 → length (z .buffer) < 2 ^ 63 → Step w z c (Ready w c) (stacked st c (kindOn w c) (numberOn w c)) o (taken c (kindOn w c) (numberOn w c))
+  unfolding count rows*
+  turn h i j = go (d .rest) (d .levels) (d .run) (d .rowsAre) (d .held)
+    where
+      go : (vs : Trees) (l : ℕ) → Run l (c .left) (c .elements) (d .spot) vs → drop (2 * (c .row)) w ≡ rows* vs ++ d .behind → Held st z (c .top) l (d .behind) (over (modeIs (c .elements)) vs (reach (c .size) (c .mark) o))
+          → Step w z c (Ready w c) (stacked st c (kindOn w c) (numberOn w c)) o (taken c (kindOn w c) (numberOn w c))
+      go none l r e g = absurd (omega (arith, r .full))
+      go (more (node k n t cs) vs) zero r e g = absurd (r .valid .0)
+      go (more (node k n t cs) vs) (suc l) r e g = stepped w z st o c (d .spot) k n t cs vs l (d .behind) (two w (c .row) k n ((rows* cs ++ rows* vs) ++ d .behind) e) r g i j (left-small .0)
+
+  -- none is due
+  spent : c .left ≡ 0 → (drop (2 * (c .row)) w ≡ d .behind) × Held st z (c .top) (d .levels) (d .behind) (reach (c .size) (c .mark) o)
+  unfolding count rows*
+  spent e = go (d .rest) (d .run .full) (d .rowsAre) (d .held)
+    where
+      go : (vs : Trees) → count vs ≡ c .left → drop (2 * (c .row)) w ≡ rows* vs ++ d .behind → Held st z (c .top) (d .levels) (d .behind) (over (modeIs (c .elements)) vs (reach (c .size) (c .mark) o))
+          → (drop (2 * (c .row)) w ≡ d .behind) × Held st z (c .top) (d .levels) (d .behind) (reach (c .size) (c .mark) o)
+      go none n r g = (r, rw (none-over (modeIs (c .elements)) (reach (c .size) (c .mark) o)) at g)
+      go (more v vs) n r g = absurd (omega arith)
+
+  -- the innermost compound ends
+  pub ended : c .left ≡ 0 → 0 < c .left + c .top → Step w z c (Complete st o c) st (sets o (placeOn st (c .top)) (be 3 (c .size - startOn st (c .top)))) (closed st c)
+  ended e h = go refl refl (spent e .0) (spent e .1)
+    where
+      go : {t l : ℕ} {u : List ℕ} {x : Reach} → c .top ≡ t → reach (c .size) (c .mark) o ≡ x → drop (2 * (c .row)) w ≡ u → Held st z t l u x
+          → Step w z c (Complete st o c) st (sets o (placeOn st (c .top)) (be 3 (c .size - startOn st (c .top)))) (closed st c)
+      go t x r (whole i j k) = absurd (omega arith)
+      go {l = l} t x r (inside s vs u i j k m g) =
+          let a = held-fits g in
+          let b = ap (λ y. y .size) x in
+          record {
+            can = record { high = omega arith; deep = omega arith; start = rw t (rw (← x) at k); place = rw t (rw (← x) at m); small = omega arith };
+            due = record { spot = s; rest = vs; levels = suc l; behind = u; run = rw t j; rowsAre = r; held = rw t (rw (← x) at g) };
+            less = omega arith;
+          }
+
+  -- all is done
+  pub finished : c .left + c .top ≤ 0 → o ≡ z .buffer
+  finished h = go refl (spent (omega arith) .1)
+    where
+      go : {t l : ℕ} {u : List ℕ} {x : Reach} → c .top ≡ t → Held st z t l u x → x .buffer ≡ z .buffer
+      go t (whole i j k) = refl
+      go t (inside s vs u i j k m g) = absurd (omega arith)
+
+-- the marks of a whole table
+abbrev pub goal : (buffer : List ℕ) → (mark : ℕ) → Tree → Reach
+goal o m v = reach (length (encode v)) (m + length (marks v)) (sets o m (marks v))
+
+-- are due at its first row
+pub begun : (w o : List ℕ) (m : ℕ) (v : Tree) (st : List ℕ) → length st ≡ 3 * levelMost → Markable w o m v → Due w (goal o m v) st o (fromStart m)
+unfolding count rows* encode* marks* next modeOf
+begun w o m v st h k = record {
+  spot = any;
+  rest = more v none;
+  levels = levelMost;
+  behind = [];
+  run = record { full = refl; valid = (k .valid, tt); sure = tt; mode = refl };
+  rowsAre = k .rowsAre ∙ sym (append-nil (rows v ++ []) ∙ append-nil (rows v));
+  held = subst (Held st (goal o m v) 0 levelMost []) (sym all) (whole h (k .small) (rw length-sets (k .room)));
+}
+  where
+    all : over values (more v none) (reach 0 m o) ≡ goal o m v
+    all = reach-is (rw append-nil (omega arith)) (rw append-nil) (rw append-nil)
+
+-- In the code's own words
+
+-- three stores
 pub three-sets : (st : List ℕ) (top a b d : ℕ) → set (set (set st top a) (top + 1) b) (top + 2) d ≡ sets st top (a ∷ b ∷ d ∷ [])
 three-sets st top a b d =
     let e : top + 1 ≡ suc top = omega arith in
     let f : top + 2 ≡ suc (suc top) = omega arith in
     rw (e, f)
 
-pub box-small : (b : ℕ) → boxWidth b ≤ 9
-box-small b = if-case (λ (z : ℕ). z ≤ 9) (ltb b shortEnd) 3 9 (λ t. omega arith) (λ t. omega arith)
-
--- All bytes are no fewer than those so far
-
-grows : (f : Opened) (z : ℕ) → z ≤ sizeOfAll f z
-unfolding sizeOfAll
-grows whole z = omega arith
-grows (inside vs s p f) z = omega (arith, grows f (z + boxWidth (z - s) + length (encode* vs)))
-
--- A point where a value is due: its row, its children, and those behind it
-
--- kind and number of the row at a point
-abbrev pub kindOn : (words : List ℕ) → Point → ℕ
-kindOn w c = getD w (2 * (c .row)) 0
-
-abbrev pub numberOn : (words : List ℕ) → Point → ℕ
-numberOn w c = getD w (2 * (c .row) + 1) 0
-
-pub record Front (w z st o : List ℕ) (c : Point) : Type 0 where
-  pub text : List ℕ
-  pub below : Trees
-  pub behind : Trees
-  pub opened : Opened
-  pub level : ℕ
-  pub here : 2 * (c .row) + 2 ≤ length w
-  pub rowsAre : drop (2 * (c .row + 1)) w ≡ rows* below ++ (rows* behind ++ rowsBehind opened)
-  pub row : Row any (kindOn w c) (numberOn w c) text below
-  pub children : All (λ d v. Valid level d v) (firstIn (styleOf (kindOn w c)) (numberOn w c)) below
-  pub valid : All (λ d v. Valid (suc level) d v) any behind
-  pub full : suc (count behind) ≡ c .left
-  pub held : Held st (length o) opened (c .top) (suc level) (c .size)
-  pub deep : c .top + 3 * suc level ≡ 3 * levelMost
-  pub stacked : length st ≡ 3 * levelMost
-  pub small : sizeOfAll opened (c .size + length (encode* (more (node (kindOn w c) (numberOn w c) text below) behind))) ≤ most
-  pub room : c .mark + length (marks* (more (node (kindOn w c) (numberOn w c) text below) behind)) + marksBehind opened ≤ length o
-  pub comes : marksOfAll opened (c .size + length (encode* (more (node (kindOn w c) (numberOn w c) text below) behind))) (c .mark + length (marks* (more (node (kindOn w c) (numberOn w c) text below) behind)))
-      (sets o (c .mark) (marks* (more (node (kindOn w c) (numberOn w c) text below) behind))) ≡ z
-
--- the value and those behind it
-abbrev pub ahead : {w z st o : List ℕ} {c : Point} → Front w z st o c → Trees
-ahead {w = w} {c = c} q = more (node (kindOn w c) (numberOn w c) (q .text) (q .below)) (q .behind)
-
--- two words in front
-two : (w : List ℕ) (i k n : ℕ) (u : List ℕ) → drop (2 * i) w ≡ k ∷ n ∷ u → (getD w (2 * i) 0 ≡ k) × (getD w (2 * i + 1) 0 ≡ n) × (2 * i + 2 ≤ length w) × (drop (2 * (i + 1)) w ≡ u)
-two w i k n u e =
-    let h : 2 * i + 2 ≤ length w = omega (arith, ap length e, length-drop (2 * i) w) in
-    let j : 2 * (i + 1) ≡ 2 * i + 2 = omega arith in
-    let d : getD w (2 * i) 0 ∷ getD w (2 * i + 1) 0 ∷ drop (2 * i + 2) w ≡ k ∷ n ∷ u = sym (row-words w i h) ∙ e in
-    let a : getD w (2 * i) 0 ≡ k = cc in
-    let b : getD w (2 * i + 1) 0 ≡ n = cc in
-    let f : drop (2 * i + 2) w ≡ u = cc in
-    (a, b, h, rw j f)
-
-pub front : (w z st o : List ℕ) (c : Point) → Due w z st o c → 0 < c .left → Front w z st o c
-unfolding count rows* next
-front w z st o c d h = go (d .rest) (d .levels) (d .full) (d .rowsAre) (d .valid) (d .held) (d .deep) (d .small) (d .room) (d .comes)
-  where
-    go : (vs : Trees) (l : ℕ) → count vs ≡ c .left → drop (2 * (c .row)) w ≡ rows* vs ++ rowsBehind (d .opened) → All (λ e v. Valid l e v) any vs → Held st (length o) (d .opened) (c .top) l (c .size)
-        → c .top + 3 * l ≡ 3 * levelMost → sizeOfAll (d .opened) (c .size + length (encode* vs)) ≤ most → c .mark + length (marks* vs) + marksBehind (d .opened) ≤ length o
-        → marksOfAll (d .opened) (c .size + length (encode* vs)) (c .mark + length (marks* vs)) (sets o (c .mark) (marks* vs)) ≡ z → Front w z st o c
-    go none l f r v e p s m q = absurd (omega (arith, f, h))
-    go (more (node k n t cs) vs) zero f r v e p s m q = absurd (v .0)
-    go (more (node k n t cs) vs) (suc l) f r v e p s m q =
-        let y = two w (c .row) k n ((rows* cs ++ rows* vs) ++ rowsBehind (d .opened)) r in
-        record {
-          text = t;
-          below = cs;
-          behind = vs;
-          opened = d .opened;
-          level = l;
-          here = y .2;
-          rowsAre = y .3 ∙ append-assoc (rows* cs) (rows* vs) (rowsBehind (d .opened));
-          row = rw (y .0, y .1) (v .0 .0);
-          children = rw (y .0, y .1) (v .0 .1);
-          valid = v .1;
-          full = f;
-          held = e;
-          deep = p;
-          stacked = d .stacked;
-          small = rw (y .0, y .1) s;
-          room = rw (y .0, y .1) m;
-          comes = rw (y .0, y .1) q;
-        }
-
--- the bytes and the marks of a value and of those behind it
-value-size : (k n : ℕ) (t : List ℕ) (cs vs : Trees) → Row any k n t cs
-    → length (encode* (more (node k n t cs) vs)) ≡ length (head (styleOf k) (k % 256) n (length (bodyOf (styleOf k) cs))) + (letters (styleOf k) n + length (bodyOf (styleOf k) cs)) + length (encode* vs)
-unfolding encode*
-value-size k n t cs vs r =
-    rw (compact-head (styleOf k) k n t cs (r .known) (r .long) (r .full), mod-eq-of-lt (kind-small k (r .known))) (simp (length-append, r .long) (omega arith))
-
--- Rows without a mark: what they take before their children, which are values
-
-pub record Lone (s : Style) (k n y : ℕ) : Type 0 where
-  pub unmarked : markWidth s n ≡ 0
-  pub spot : (l : ℕ) (cs : Trees) → count cs ≡ children s n → All (λ d v. Valid l d v) (firstIn s n) cs → All (λ d v. Valid l d v) any cs
-  pub sized : (cs : Trees) → count cs ≡ children s n → length (head s (k % 256) n (length (bodyOf s cs))) + (letters s n + length (bodyOf s cs)) ≡ y + length (encode* cs)
-
-pub number-lone : (s : Style) (k n y : ℕ) → y ≡ length (numberHead s (k % 256) n) → 0 < y → Lone s k n y × (children s n ≡ 0)
-unfolding numberHead markWidth firstIn children letters head bodyOf
-number-lone foreign k n y e h = absurd (omega arith)
-number-lone (numbered s w) k n y e h = (record { unmarked = refl; spot = λ l cs i a. a; sized = λ cs i. omega (arith, e) }, refl)
-number-lone (blob w) k n y e h = absurd (omega arith)
-number-lone (lettered s) k n y e h = absurd (omega arith)
-number-lone (listed a s) k n y e h = absurd (omega arith)
-number-lone (mapped s) k n y e h = absurd (omega arith)
-number-lone (arrayed s) k n y e h = absurd (omega arith)
-number-lone describing k n y e h = absurd (omega arith)
-
-pub described-lone : (k n : ℕ) → k ≡ 0 → T (ranged (styleOf k) k n) → Lone (styleOf k) k n 1 × (children (styleOf k) n ≡ 2)
-unfolding styleOf lookup kinds ranged markWidth firstIn children letters head bodyOf
-described-lone k n e r = rw e (go (rw e at r))
-  where
-    go : T (ranged describing 0 n) → Lone describing 0 n 1 × (n ≡ 2)
-    go i = (record { unmarked = refl; spot = λ l cs j a. a; sized = λ cs j. omega arith }, eqb→eq n 2 i)
-
--- of all rows only described values are of kind 0
-namedSo : ℕ → Style → Bool
-namedSo k foreign = true
-namedSo k (numbered s w) = true
-namedSo k (blob w) = true
-namedSo k (lettered s) = true
-namedSo k (listed e s) = true
-namedSo k (mapped s) = true
-namedSo k (arrayed s) = true
-namedSo k describing = eqb k 0
-
-is-named : (k : ℕ) → T (namedSo k (styleOf k))
-unfolding kinds namedSo allKinds
-is-named k = of-kind namedSo k tt tt
-
-none-left : (n : ℕ) → (true && ltb 0 n) ≡ false → n ≡ 0
-none-left zero e = refl
-none-left (suc n) e = absurd (subst T (sym (lt-ltb 0 (suc n) (omega arith)) ∙ e) tt)
-
--- the others that hold no values
-leaf-lone : (s : Style) (k n : ℕ) → T (isKind s) → T (namedSo k s) → ¬ (k ≡ 0) → boxes s n ≡ false → elementsOf s n ≡ 0 → Lone s k n (length (head s (k % 256) n 0) + letters s n) × (children s n ≡ 0)
-unfolding isKind namedSo elementsOf markWidth firstIn children letters head bodyOf headed encode*
-leaf-lone foreign k n i t z b e = absurd i
-leaf-lone (numbered s w) k n i t z b e = (record { unmarked = refl; spot = λ l cs j a. a; sized = λ cs j. omega arith }, refl)
-leaf-lone (blob w) k n i t z b e = (record { unmarked = refl; spot = λ l cs j a. a; sized = λ cs j. omega arith }, refl)
-leaf-lone (lettered s) k n i t z b e = (record { unmarked = refl; spot = λ l cs j a. a; sized = λ cs j. omega arith }, refl)
-leaf-lone (listed a s) k n i t z b e = rw (none-left n b) (record { unmarked = refl; spot = λ l cs j a. a; sized = λ cs j. rw (no-children cs j) }, refl)
-leaf-lone (mapped s) k n i t z b e = rw (none-left n b) (record { unmarked = refl; spot = λ l cs j a. a; sized = λ cs j. rw (no-children cs j) (omega arith) }, refl)
-leaf-lone (arrayed s) k n i t z b e = rw e (record { unmarked = refl; spot = λ l cs j a. rw (no-children cs j) tt; sized = λ cs j. rw (no-children cs j) (omega arith) }, refl)
-leaf-lone describing k n i t z b e = absurd (z (eqb→eq k 0 t))
-
-pub other-lone : (k n : ℕ) → T (isKind (styleOf k)) → ¬ (k ≡ 0) → boxes (styleOf k) n ≡ false → elementsOf (styleOf k) n ≡ 0 → Lone (styleOf k) k n (length (head (styleOf k) (k % 256) n 0) + letters (styleOf k) n) × (children (styleOf k) n ≡ 0)
-other-lone k n i z b e = leaf-lone (styleOf k) k n i (is-named k) z b e
-
--- Lists and maps that are not empty, and arrays
-
-pub not-boxed : (k n : ℕ) → Rest (kindsOnto isListOrMap kinds []) k → false ≡ boxes (styleOf k) n
-not-boxed k n r = rw (other isListOrMap refl k r)
-
-record Boxed (s : Style) (k n : ℕ) : Type 0 where
-  pub full : children s n ≡ n
-  pub spot : firstIn s n ≡ any
-  pub marked : markWidth s n ≡ 3
-  pub silent : letters s n ≡ 0
-  pub body : (cs : Trees) → bodyOf s cs ≡ encode* cs
-  pub headed : (b : ℕ) → length (head s (k % 256) n b) ≡ boxWidth b
-
-boxed : (s : Style) (k n : ℕ) → boxes s n ≡ true → Boxed s k n
-unfolding children firstIn markWidth letters bodyOf head
-boxed foreign k n e = let o : _≡_ {A = ℕ} 0 1 = cc in absurd (omega arith)
-boxed (numbered s w) k n e = let o : _≡_ {A = ℕ} 0 1 = cc in absurd (omega arith)
-boxed (blob w) k n e = let o : _≡_ {A = ℕ} 0 1 = cc in absurd (omega arith)
-boxed (lettered s) k n e = let o : _≡_ {A = ℕ} 0 1 = cc in absurd (omega arith)
-boxed (listed a s) k n e =
-    let i : eqb n 0 ≡ false = ne-eqb n 0 (λ (z : n ≡ 0). let y : 0 < n = ltb→lt 0 n (rw e tt) in omega arith) in
-    record { full = refl; spot = refl; marked = rw i; silent = refl; body = λ cs. refl; headed = λ b. rw i (enclosed-width s (k % 256) n b) }
-boxed (mapped s) k n e =
-    let i : eqb n 0 ≡ false = ne-eqb n 0 (λ (z : n ≡ 0). let y : 0 < n = ltb→lt 0 n (rw e tt) in omega arith) in
-    record { full = refl; spot = refl; marked = rw i; silent = refl; body = λ cs. refl; headed = λ b. enclosed-width s (k % 256) n b }
-boxed (arrayed s) k n e = let o : _≡_ {A = ℕ} 0 1 = cc in absurd (omega arith)
-boxed describing k n e = let o : _≡_ {A = ℕ} 0 1 = cc in absurd (omega arith)
-
-record Filled (s : Style) (k n m : ℕ) : Type 0 where
-  pub full : children s n ≡ m
-  pub spot : firstIn s n ≡ first
-  pub marked : markWidth s n ≡ 3
-  pub silent : letters s n ≡ 0
-  pub body : (cs : Trees) → count cs ≡ m → length (bodyOf s cs) ≡ 1 + length (payloads cs)
-  pub headed : (b : ℕ) → length (head s (k % 256) n b) ≡ boxWidth b
-
-headed-size : (cs : Trees) → 0 < count cs → length (headed cs (payloads cs)) ≡ 1 + length (payloads cs)
-unfolding headed count
-headed-size none h = absurd (omega arith)
-headed-size (more (node k n t ds) vs) h = omega arith
-
-filled : (s : Style) (k n m : ℕ) → m ≡ elementsOf s n → 0 < m → Filled s k n m
-unfolding elementsOf children firstIn markWidth letters bodyOf head
-filled foreign k n m e h = absurd (omega arith)
-filled (numbered s w) k n m e h = absurd (omega arith)
-filled (blob w) k n m e h = absurd (omega arith)
-filled (lettered s) k n m e h = absurd (omega arith)
-filled (listed a s) k n m e h = absurd (omega arith)
-filled (mapped s) k n m e h = absurd (omega arith)
-filled (arrayed s) k n m e h =
-    let i : eqb n 0 ≡ false = ne-eqb n 0 (λ (z : n ≡ 0). omega arith) in
-    record { full = sym e; spot = refl; marked = rw i; silent = refl; body = λ cs j. headed-size cs (omega (arith, j)); headed = λ b. enclosed-width s (k % 256) n b }
-filled describing k n m e h = absurd (omega arith)
-
--- elements have no rows below
-items-rows : (vs : Trees) (l : ℕ) (c : Spot) → Inner c → Sure c → All (λ d v. Valid l d v) c vs → length (rows* vs) ≡ 2 * count vs
-unfolding rows* count
-items-rows none l c i p a = refl
-items-rows (more (node k n t cs) vs) zero c i p a = absurd (a .0)
-items-rows (more (node k n t cs) vs) (suc l) c i p a =
-    let r = a .0 .0 in
-    let y = inner-plain c k i p (r .fits) in
-    rw (no-children cs (r .full ∙ plain-leaf (styleOf k) n y .0)) (omega (arith, items-rows vs (suc l) (next c k) (inner-next c k i) (sure-next c k p (r .fits)) (a .1)))
-
--- Turns
-
-module _ (w z st o : List ℕ) (c : Point) (q : Front w z st o c) where
-  -- the sums of a point fit, and there is room for its mark
-  pub point-sums : length w * 8 < 2 ^ 63 → (c .row + 1 < 2 ^ 64) × (c .size + length (encode* (ahead q)) ≤ most) × (c .left + 2 < 2 ^ 64)
-  point-sums h =
-      let a : length (rows* (q .behind)) ≤ length w = omega (arith, ap length (q .rowsAre), length-append (rows* (q .below)) (rows* (q .behind) ++ rowsBehind (q .opened)), length-append (rows* (q .behind)) (rowsBehind (q .opened)), length-drop (2 * (c .row + 1)) w) in
-      (omega (arith, q .here), omega (arith, q .small, grows (q .opened) (c .size + length (encode* (ahead q)))), omega (arith, q .full, few (q .behind)))
-
-  -- a row without a mark
-  module _ (y m : ℕ) (e : Lone (styleOf (kindOn w c)) (kindOn w c) (numberOn w c) y) (f : children (styleOf (kindOn w c)) (numberOn w c) ≡ m) where
-    lone-size : length (encode* (ahead q)) ≡ y + length (encode* (join (q .below) (q .behind)))
-    lone-size = omega (arith, value-size (kindOn w c) (numberOn w c) (q .text) (q .below) (q .behind) (q .row), e .sized (q .below) (q .row .full), size-join (q .below) (q .behind))
-
-    lone-marks : marks* (ahead q) ≡ marks* (join (q .below) (q .behind))
-    unfolding marks* be
-    lone-marks = rw (e .unmarked, marks-join (q .below) (q .behind))
-
-    pub lone-turn : Due w z st o (beyond c y m)
-    lone-turn =
-        let s : c .size + length (encode* (ahead q)) ≡ c .size + y + length (encode* (join (q .below) (q .behind))) = omega (arith, lone-size) in
-        record {
-          opened = q .opened;
-          rest = join (q .below) (q .behind);
-          levels = suc (q .level);
-          full = omega (arith, count-join (q .below) (q .behind), q .row .full, f, q .full);
-          rowsAre = q .rowsAre ∙ rw (rows-join (q .below) (q .behind)) (sym (append-assoc (rows* (q .below)) (rows* (q .behind)) (rowsBehind (q .opened))));
-          valid = valid-join (suc (q .level)) (q .below) (q .behind) (deeper* (q .below) (q .level) any (e .spot (q .level) (q .below) (q .row .full) (q .children))) (q .valid);
-          held = held-grows st (length o) (q .opened) (c .top) (suc (q .level)) (c .size) (c .size + y) (omega arith) (q .held);
-          deep = q .deep;
-          stacked = q .stacked;
-          small = rw s at (q .small);
-          room = rw lone-marks at (q .room);
-          comes = rw (s, lone-marks) at (q .comes);
-        }
-
-    pub lone-fits : c .size + y ≤ c .size + length (encode* (ahead q))
-    lone-fits = omega (arith, lone-size)
-
-    pub lone-less : toGo w (beyond c y m) < toGo w c
-    lone-less = omega (arith, q .here)
-
-  -- a list or a map begins
-  module _ (e : boxes (styleOf (kindOn w c)) (numberOn w c) ≡ true) where
-    box : Boxed (styleOf (kindOn w c)) (kindOn w c) (numberOn w c)
-    box = boxed (styleOf (kindOn w c)) (kindOn w c) (numberOn w c) e
-
-    box-marks : marks* (ahead q) ≡ be 3 (length (encode* (q .below))) ++ marks* (q .below) ++ marks* (q .behind)
-    unfolding marks*
-    box-marks = rw (box .marked, box .body (q .below))
-
-    -- the bytes at its end, and behind it
-    box-size : c .size + length (encode* (ahead q))
-        ≡ c .size + length (encode* (q .below)) + boxWidth (c .size + length (encode* (q .below)) - c .size) + length (encode* (q .behind))
-    box-size =
-        let d : c .size + length (encode* (q .below)) - c .size ≡ length (encode* (q .below)) = omega arith in
-        let v : _ = rw (box .body (q .below)) at (value-size (kindOn w c) (numberOn w c) (q .text) (q .below) (q .behind) (q .row)) in
-        rw d (omega (arith, v, box .silent, box .headed (length (encode* (q .below)))))
-
-    pub box-room : (c .top + 3 ≤ length st) × (c .mark + 3 ≤ length o)
-    box-room = (
-      omega (arith, q .deep, q .stacked),
-      omega (arith, q .room, ap length box-marks, length-append (be 3 (length (encode* (q .below))) ++ marks* (q .below)) (marks* (q .behind)), length-append (be 3 (length (encode* (q .below)))) (marks* (q .below)), length-be 3 (length (encode* (q .below)))),
-    )
-
-    pub box-turn : (a : List ℕ) → a ≡ sets st (c .top) (c .size ∷ c .mark ∷ (c .left - 1) ∷ []) → Due w z a o (entered c (numberOn w c))
-    unfolding rowsBehind marksBehind sizeOfAll marksOfAll
-    box-turn a h =
-        let p = pushed st (c .top) (c .size) (c .mark) (c .left - 1) (box-room .0) in
-        let t : c .top + 3 - 3 ≡ c .top = omega arith in
-        let b : length (marks* (ahead q)) ≡ 3 + length (marks* (q .below)) + length (marks* (q .behind)) =
-        omega (arith, ap length box-marks, length-append (be 3 (length (encode* (q .below))) ++ marks* (q .below)) (marks* (q .behind)), length-append (be 3 (length (encode* (q .below)))) (marks* (q .below)), length-be 3 (length (encode* (q .below)))) in
-        record {
-          opened = inside (q .behind) (c .size) (c .mark) (q .opened);
-          rest = q .below;
-          levels = q .level;
-          full = q .row .full ∙ box .full;
-          rowsAre = q .rowsAre;
-          valid = rw (box .spot) at (q .children);
-          held = rw t (
-            record {
-              high = omega arith;
-              start = rw (t, h) (p .0);
-              place = rw (t, h) (p .1);
-              left = rw (t, h) (p .2 ∙ omega (arith, q .full));
-              valid = q .valid;
-              before = omega arith;
-              fits = box-room .1;
-            },
-            rw h (held-kept st (sets st (c .top) (c .size ∷ c .mark ∷ (c .left - 1) ∷ [])) (length o) (q .opened) (c .top) (suc (q .level)) (c .size) (p .3) (q .held)),
-          );
-          deep = omega (arith, q .deep);
-          stacked = rw (h, length-sets) (q .stacked);
-          small = rw box-size at (q .small);
-          room = omega (arith, q .room, b);
-          comes = box-comes b;
-        }
-      where
-        box-comes : length (marks* (ahead q)) ≡ 3 + length (marks* (q .below)) + length (marks* (q .behind))
-            → marksOfAll (q .opened) (c .size + length (encode* (q .below)) + boxWidth (c .size + length (encode* (q .below)) - c .size) + length (encode* (q .behind))) (c .mark + 3 + length (marks* (q .below)) + length (marks* (q .behind)))
-            (sets (sets (sets o (c .mark + 3) (marks* (q .below))) (c .mark) (be 3 (c .size + length (encode* (q .below)) - c .size))) (c .mark + 3 + length (marks* (q .below))) (marks* (q .behind)))
-            ≡ z
-        box-comes b =
-            let d : c .size + length (encode* (q .below)) - c .size ≡ length (encode* (q .below)) = omega arith in
-            let i : c .mark + length (marks* (ahead q)) ≡ c .mark + 3 + length (marks* (q .below)) + length (marks* (q .behind)) = omega (arith, b) in
-            let n = length-be 3 (length (encode* (q .below))) in
-            let j : c .mark + length (be 3 (length (encode* (q .below))) ++ marks* (q .below)) ≡ c .mark + 3 + length (marks* (q .below)) = omega (arith, length-append (be 3 (length (encode* (q .below)))) (marks* (q .below)), n) in
-            let g : sets o (c .mark) (marks* (ahead q))
-            ≡ sets (sets (sets o (c .mark + 3) (marks* (q .below))) (c .mark) (be 3 (length (encode* (q .below))))) (c .mark + 3 + length (marks* (q .below))) (marks* (q .behind)) =
-            rw box-marks (
-            sets-append o (c .mark) (be 3 (length (encode* (q .below))) ++ marks* (q .below)) (marks* (q .behind))
-            ∙ rw (j, sets-append o (c .mark) (be 3 (length (encode* (q .below)))) (marks* (q .below)), n, sets-swap o (c .mark) (be 3 (length (encode* (q .below)))) (c .mark + 3) (marks* (q .below)) (omega (arith, n)))) in
-            let k = rw (box-size, i, g) at (q .comes) in
-            rw d (rw d at k)
-
-    pub box-less : toGo w (entered c (numberOn w c)) < toGo w c
-    box-less = omega (arith, q .here)
-
-  -- an array with elements
-  module _ (m : ℕ) (e : m ≡ elementsOf (styleOf (kindOn w c)) (numberOn w c)) (h : 0 < m) where
-    fill : Filled (styleOf (kindOn w c)) (kindOn w c) (numberOn w c) m
-    fill = filled (styleOf (kindOn w c)) (kindOn w c) (numberOn w c) m e h
-
-    cells : All (λ d v. Valid (q .level) d v) first (q .below)
-    cells = rw (fill .spot) at (q .children)
-
-    many : count (q .below) ≡ m
-    many = q .row .full ∙ fill .full
-
-    array-size : length (encode* (ahead q)) ≡ boxWidth (1 + length (payloads (q .below))) + (1 + length (payloads (q .below))) + length (encode* (q .behind))
-    array-size =
-        let v : _ = rw (fill .body (q .below) many) at (value-size (kindOn w c) (numberOn w c) (q .text) (q .below) (q .behind) (q .row)) in
-        omega (arith, v, fill .silent, fill .headed (1 + length (payloads (q .below))))
-
-    array-marks : marks* (ahead q) ≡ be 3 (1 + length (payloads (q .below))) ++ marks* (q .behind)
-    unfolding marks*
-    array-marks = rw (fill .marked, fill .body (q .below) many, items-unmarked (q .below) (q .level) first tt tt cells, append-nil)
-
-    array-end : 2 * (c .row + 1 + m) ≤ length w
-    array-end = omega (arith, ap length (q .rowsAre), length-append (rows* (q .below)) (rows* (q .behind) ++ rowsBehind (q .opened)), length-drop (2 * (c .row + 1)) w, items-rows (q .below) (q .level) first tt tt cells, many)
-
-    pub array-elements : Elements w m (c .row + 1) first (q .below)
-    array-elements = record {
-      levels = q .level;
-      behind = rows* (q .behind) ++ rowsBehind (q .opened);
-      rowsAre = q .rowsAre;
-      full = many;
-      valid = cells;
-      small = omega (arith, array-size, q .small, grows (q .opened) (c .size + length (encode* (ahead q))));
-    }
-
-    pub array-room : (c .mark + 3 ≤ length o) × (2 * (c .row + 1 + m) ≤ length w) × (c .size ≤ most)
-    array-room = (
-      omega (arith, q .room, ap length array-marks, length-append (be 3 (1 + length (payloads (q .below)))) (marks* (q .behind)), length-be 3 (1 + length (payloads (q .below)))),
-      array-end,
-      omega (arith, q .small, grows (q .opened) (c .size + length (encode* (ahead q)))),
-    )
-
-    pub array-turn : (a : List ℕ) → a ≡ sets o (c .mark) (be 3 (1 + length (payloads (q .below)))) → Due w z st a (overArray c m (1 + length (payloads (q .below))))
-    array-turn a g =
-        let n = length-be 3 (1 + length (payloads (q .below))) in
-        let s : c .size + length (encode* (ahead q)) ≡ c .size + (boxWidth (1 + length (payloads (q .below))) + (1 + length (payloads (q .below)))) + length (encode* (q .behind)) = omega (arith, array-size) in
-        let b : length (marks* (ahead q)) ≡ 3 + length (marks* (q .behind)) = omega (arith, ap length array-marks, length-append (be 3 (1 + length (payloads (q .below)))) (marks* (q .behind)), n) in
-        let i : c .mark + length (marks* (ahead q)) ≡ c .mark + 3 + length (marks* (q .behind)) = omega (arith, b) in
-        let y : length a ≡ length o = rw (g, length-sets) in
-        let t : sets o (c .mark) (marks* (ahead q)) ≡ sets a (c .mark + 3) (marks* (q .behind)) =
-        rw (array-marks, g) (sets-append o (c .mark) (be 3 (1 + length (payloads (q .below)))) (marks* (q .behind)) ∙ rw n) in
-        let x : 2 * (c .row + 1) + 2 * m ≡ 2 * (c .row + 1 + m) = omega arith in
-        record {
-          opened = q .opened;
-          rest = q .behind;
-          levels = suc (q .level);
-          full = omega (arith, q .full);
-          rowsAre = rw (← x) (sym (drop-drop (2 * m) (2 * (c .row + 1)) w) ∙ ap (drop (2 * m)) (q .rowsAre) ∙ drop-at (rows* (q .below)) (rows* (q .behind) ++ rowsBehind (q .opened)) (2 * m) (omega (arith, items-rows (q .below) (q .level) first tt tt cells, many)));
-          valid = q .valid;
-          held = rw y (held-grows st (length o) (q .opened) (c .top) (suc (q .level)) (c .size) (c .size + (boxWidth (1 + length (payloads (q .below))) + (1 + length (payloads (q .below))))) (omega arith) (q .held));
-          deep = q .deep;
-          stacked = q .stacked;
-          small = rw s at (q .small);
-          room = omega (arith, q .room, b, y);
-          comes = rw (s, i, t) at (q .comes);
-        }
-
-    pub array-less : (b : ℕ) → toGo w (overArray c m b) < toGo w c
-    array-less b = omega (arith, q .here)
-
--- what the code finds of the row at a point, and where it goes on
-module _ (w st o : List ℕ) (c : Point) (g : Going w st o c) (h : 0 < c .left) where
-  pub now : Front w (g .goal) st o c
-  now = front w (g .goal) st o c (g .due) h
-
-  pub lone-onward : (y m : ℕ) → Lone (styleOf (kindOn w c)) (kindOn w c) (numberOn w c) y × (children (styleOf (kindOn w c)) (numberOn w c) ≡ m) → (r : Point) → r ≡ beyond c y m → Onward w st o c st o r
-  lone-onward y m e r i =
-      rw i (record { due = λ z d. lone-turn w z st o c (front w z st o c d h) y m (e .0) (e .1); less = lone-less w (g .goal) st o c now y m (e .0) (e .1) })
-
-  pub lone-asks : length w * 8 < 2 ^ 63 → (y m : ℕ) → m ≤ 2 → Lone (styleOf (kindOn w c)) (kindOn w c) (numberOn w c) y × (children (styleOf (kindOn w c)) (numberOn w c) ≡ m)
-      → (c .row + 1 < 2 ^ 64) × (c .size + y < 2 ^ 64) × (0 < c .left) × (c .left + m < 2 ^ 64)
-  lone-asks s y m l e =
-      let p = point-sums w (g .goal) st o c now s in
-      (p .0, omega (arith, p .1, lone-fits w (g .goal) st o c now y m (e .0) (e .1)), h, omega (arith, p .2))
-
-  module _ (b : Bool) (i : b ≡ boxes (styleOf (kindOn w c)) (numberOn w c)) (j : b ≡ true) where
-    pub box-asks : length w * 8 < 2 ^ 63 → length o < 2 ^ 64 → (c .top + 3 ≤ length st) × (0 < c .left) × (c .row + 1 < 2 ^ 64) × (c .mark + 3 < 2 ^ 64)
-    box-asks s k =
-        let p = box-room w (g .goal) st o c now (sym i ∙ j) in
-        (p .0, h, point-sums w (g .goal) st o c now s .0, omega (arith, p .1))
-
-    pub box-onward : (r : Point) (a : List ℕ) → r ≡ entered c (numberOn w c) → a ≡ sets st (c .top) (c .size ∷ c .mark ∷ (c .left - 1) ∷ []) → Onward w st o c a o r
-    box-onward r a k l =
-        rw k (record { due = λ z d. box-turn w z st o c (front w z st o c d h) (sym i ∙ j) a l; less = box-less w (g .goal) st o c now (sym i ∙ j) })
-
-  module _ (s : Style) (i : s ≡ styleOf (kindOn w c)) (m : ℕ) (j : m ≡ elementsOf s (numberOn w c)) where
-    own : m ≡ elementsOf (styleOf (kindOn w c)) (numberOn w c)
-    own = rw i at j
-
-    module _ (k : 0 < m) where
-      pub array-asks : length w * 8 < 2 ^ 63 → SomeElements w m (c .row + 1) × (c .mark + 3 ≤ length o) × (0 < c .left) × (c .row + 1 + m < 2 ^ 64) × (c .size < 2 ^ 62)
-      array-asks t =
-          let p = array-room w (g .goal) st o c now m own k in
-          (record { trees = now .below; are = array-elements w (g .goal) st o c now m own k }, p .0, h, omega (arith, p .1), omega (arith, p .2))
-
-      pub array-onward : (r : Point) (a : List ℕ)
-          → ((cs : Trees) → Elements w m (c .row + 1) first cs → (r ≡ overArray c m (1 + length (payloads cs))) × (a ≡ sets o (c .mark) (be 3 (1 + length (payloads cs))))) → Onward w st o c st a r
-      array-onward r a f = record {
-        due = λ z d. each z (front w z st o c d h);
-        less = let e = f (now .below) (array-elements w (g .goal) st o c now m own k) in subst (λ y. toGo w y < toGo w c) (sym (e .0)) (array-less w (g .goal) st o c now m own k (1 + length (payloads (now .below))));
-      }
-        where
-          each : (z : List ℕ) → Front w z st o c → Due w z st a r
-          each z q = let e = f (q .below) (array-elements w z st o c q m own k) in subst (λ y. Due w z st a y) (sym (e .0)) (array-turn w z st o c q m own k a (e .1))
-
-    -- a row that is no number, no list or map but an empty one, and no described value, and that has no elements
-    pub rest-lone : ¬ (kindOn w c ≡ 0) → (b : Bool) → b ≡ boxes (styleOf (kindOn w c)) (numberOn w c) → b ≡ false → m ≤ 0 → (hw le : ℕ) → hw ≡ length (head s (kindOn w c % 256) (numberOn w c) 0) → le ≡ letters s (numberOn w c)
-        → Lone (styleOf (kindOn w c)) (kindOn w c) (numberOn w c) (hw + le) × (children (styleOf (kindOn w c)) (numberOn w c) ≡ 0)
-    rest-lone z b e f l hw le p q =
-        let x : hw ≡ length (head (styleOf (kindOn w c)) (kindOn w c % 256) (numberOn w c) 0) = rw i at p in
-        let y : le ≡ letters (styleOf (kindOn w c)) (numberOn w c) = rw i at q in
-        rw (x, y) (other-lone (kindOn w c) (numberOn w c) (now .row .known) z (sym e ∙ f) (omega (arith, own, l)))
-
--- The innermost list or map ends
-
-pub record Ended (w z st o : List ℕ) (c : Point) : Type 0 where
-  pub high : 3 ≤ c .top
-  pub low : c .top ≤ length st
-  pub start : getD st (c .top - 3) 0 ≤ c .size
-  pub place : getD st (c .top - 3 + 1) 0 + 3 ≤ length o
-  pub small : c .size ≤ most
-  pub less : toGo w (closed st c) < toGo w c
-  pub due : (a : List ℕ) → a ≡ sets o (getD st (c .top - 3 + 1) 0) (be 3 (c .size - getD st (c .top - 3) 0)) → Due w z st a (closed st c)
-
-pub ended : (w z st o : List ℕ) (c : Point) → Due w z st o c → c .left ≡ 0 → 0 < c .left + c .top → Ended w z st o c
-unfolding count rows* encode* marks* rowsBehind marksBehind sizeOfAll marksOfAll
-ended w z st o c d e h = go (d .rest) (d .opened) (d .full) (d .rowsAre) (d .held) (d .small) (d .room) (d .comes)
-  where
-    go : (vs : Trees) (f : Opened) → count vs ≡ c .left → drop (2 * (c .row)) w ≡ rows* vs ++ rowsBehind f → Held st (length o) f (c .top) (d .levels) (c .size)
-        → sizeOfAll f (c .size + length (encode* vs)) ≤ most → c .mark + length (marks* vs) + marksBehind f ≤ length o
-        → marksOfAll f (c .size + length (encode* vs)) (c .mark + length (marks* vs)) (sets o (c .mark) (marks* vs)) ≡ z → Ended w z st o c
-    go (more v vs) f n r g s m q = absurd (omega (arith, n, e))
-    go none whole n r g s m q = absurd (omega (arith, g, e, h))
-    go none (inside vs b p f) n r g s m q =
-        let a = g .0 in
-        let i : c .size + 0 ≡ c .size = omega arith in
-        let j : c .mark + 0 ≡ c .mark = omega arith in
-        let s′ : sizeOfAll f (c .size + boxWidth (c .size - b) + length (encode* vs)) ≤ most = rw i at s in
-        let q′ : marksOfAll f (c .size + boxWidth (c .size - b) + length (encode* vs)) (c .mark + length (marks* vs)) (sets (sets o p (be 3 (c .size - b))) (c .mark) (marks* vs)) ≡ z = rw (i, j) at q in
-        record {
-          high = a .high;
-          low = omega (arith, d .deep, d .stacked);
-          start = rw (a .start) (a .before);
-          place = rw (a .place) (a .fits);
-          small = omega (arith, s′, grows f (c .size + boxWidth (c .size - b) + length (encode* vs)));
-          less = omega (arith, a .high);
-          due = λ t k.
-              let y : length t ≡ length o = rw (k, length-sets) in
-              record {
-                opened = f;
-                rest = vs;
-                levels = suc (d .levels);
-                full = sym (a .left);
-                rowsAre = r;
-                valid = a .valid;
-                held = rw (y, a .start) (held-grows st (length o) f (c .top - 3) (suc (d .levels)) b (c .size + boxWidth (c .size - b)) (omega (arith, a .before)) (g .1));
-                deep = omega (arith, d .deep, a .high);
-                stacked = d .stacked;
-                small = rw (a .start) s′;
-                room = omega (arith, m, y);
-                comes = rw (k, a .place, a .start) q′;
-              };
-        }
-
--- The beginning and the end
-
-pub begun : (w o : List ℕ) (m : ℕ) (v : Tree) (st : List ℕ) → length st ≡ 3 * levelMost → Markable w o m v → Due w (sets o m (marks v)) st o (fromStart m)
-unfolding count rows* encode* marks* rowsBehind marksBehind sizeOfAll marksOfAll next
-begun w o m v st h k =
-    let e : length (encode v ++ []) ≡ length (encode v) = rw append-nil in
-    record {
-      opened = whole;
-      rest = more v none;
-      levels = levelMost;
-      full = refl;
-      rowsAre = k .rowsAre ∙ sym (append-nil (rows v ++ []) ∙ append-nil (rows v));
-      valid = (k .valid, tt);
-      held = refl;
-      deep = refl;
-      stacked = h;
-      small = omega (arith, e, k .small);
-      room = rw append-nil (omega (arith, k .room));
-      comes = rw append-nil;
-    }
-
-pub finished : (w z st o : List ℕ) (c : Point) → Due w z st o c → c .left + c .top ≤ 0 → o ≡ z
-unfolding count marks* marksOfAll
-finished w z st o c d h = go (d .rest) (d .opened) (d .full) (d .held) (d .comes)
-  where
-    go : (vs : Trees) (f : Opened) → count vs ≡ c .left → Held st (length o) f (c .top) (d .levels) (c .size) → marksOfAll f (c .size + length (encode* vs)) (c .mark + length (marks* vs)) (sets o (c .mark) (marks* vs)) ≡ z → o ≡ z
-    go (more v vs) f n g q = absurd (omega (arith, n, h))
-    go none whole n g q = q
-    go none (inside vs b p f) n g q = absurd (omega (arith, g .0 .high, h))
-
--- how many values can be due
-pub left-small : (w z st o : List ℕ) (c : Point) → Due w z st o c → (c .left ≤ length w) × (c .top ≤ 96)
-left-small w z st o c d = (
-  omega (arith, d .full, few (d .rest), ap length (d .rowsAre), length-append (rows* (d .rest)) (rowsBehind (d .opened)), length-drop (2 * (c .row)) w),
-  omega (arith, d .deep),
-)
-
--- Elements of an array
-
--- n of them are left from row i on, with s bytes before them, and all have z
-pub record Left (w : List ℕ) (n i s z : ℕ) : Type 0 where
-  pub spot : Spot
-  pub rest : Trees
-  pub inner : Inner spot
-  pub sure : Sure spot
-  pub are : Elements w n i spot rest
-  pub sum : s + length (payloads rest) ≡ z
-  pub small : z ≤ most
-
-pub left-all : (w : List ℕ) (n i : ℕ) (cs : Trees) → Elements w n i first cs → Left w n i 0 (length (payloads cs))
-left-all w n i cs e = record { spot = first; rest = cs; inner = tt; sure = tt; are = e; sum = omega arith; small = e .small }
-
-pub left-none : (w : List ℕ) (n i s z : ℕ) → Left w n i s z → n ≤ 0 → s ≡ z
-unfolding count payloads
-left-none w n i s z l h = go (l .rest) (l .are .full) (l .sum)
-  where
-    go : (cs : Trees) → count cs ≡ n → s + length (payloads cs) ≡ z → s ≡ z
-    go none e f = omega (arith, f)
-    go (more v vs) e f = absurd (omega (arith, e, h))
-
--- the next of them
-pub record Cell (w : List ℕ) (n i s z : ℕ) : Type 0 where
-  pub here : 2 * i + 2 ≤ length w
-  pub fits : s + (itemWidth (styleOf (getD w (2 * i) 0)) + letters (styleOf (getD w (2 * i) 0)) (getD w (2 * i + 1) 0)) ≤ most
-  pub on : Left w (n - 1) (i + 1) (s + (itemWidth (styleOf (getD w (2 * i) 0)) + letters (styleOf (getD w (2 * i) 0)) (getD w (2 * i + 1) 0))) z
-
--- in the code's own words: its style
-pub cell-size : (s : Style) (k n iw le : ℕ) → s ≡ styleOf k → iw ≡ itemWidth s → le ≡ letters s n → iw + le ≡ itemWidth (styleOf k) + letters (styleOf k) n
-cell-size s k n iw le e f g = rw (f, g, e)
-
-pub cell : (w : List ℕ) (n i s z : ℕ) → Left w n i s z → 0 < n → Cell w n i s z
-unfolding count rows* payloads item
-cell w n i s z l h = go (l .rest) (l .are .levels) (l .are .full) (l .are .rowsAre) (l .are .valid) (l .sum)
-  where
-    go : (cs : Trees) (v : ℕ) → count cs ≡ n → drop (2 * i) w ≡ rows* cs ++ l .are .behind → All (λ d t. Valid v d t) (l .spot) cs → s + length (payloads cs) ≡ z → Cell w n i s z
-    go none v e r a f = absurd (omega (arith, e, h))
-    go (more (node k m t cs) vs) zero e r a f = absurd (a .0)
-    go (more (node k m t cs) vs) (suc v) e r a f =
-        let p = inner-plain (l .spot) k (l .inner) (l .sure) (a .0 .0 .fits) in
-        let b = no-children cs (a .0 .0 .full ∙ plain-leaf (styleOf k) m p .0) in
-        let y = two w i k m ((rows* cs ++ rows* vs) ++ l .are .behind) r in
-        let g : length (item (node k m t cs)) ≡ itemWidth (styleOf k) + letters (styleOf k) m = rw (wide-head (styleOf k) m t cs p (a .0 .0 .long)) (simp (length-append, length-be, a .0 .0 .long)) in
-        let x = length-append (item (node k m t cs)) (payloads vs) in
-        record {
-          here = y .2;
-          fits = rw (y .0, y .1) (omega (arith, f, g, x, l .small));
-          on = rw (y .0, y .1) (record {
-            spot = next (l .spot) k;
-            rest = vs;
-            inner = inner-next (l .spot) k (l .inner);
-            sure = sure-next (l .spot) k (l .sure) (a .0 .0 .fits);
-            are = record { levels = suc v; behind = l .are .behind; rowsAre = y .3 ∙ rw b; full = omega (arith, e); valid = a .1; small = omega (arith, f, x, l .small) };
-            sum = omega (arith, f, g, x);
-            small = l .small;
-          });
-        }
+pub bit : (b : Bool) → boolByte b ≤ 1
+bit true = omega arith
+bit false = omega arith
+
+pub box-small : (m : Mode) (b r : ℕ) → r ≡ boxWidth m b → r ≤ 9
+unfolding boxWidth
+box-small values b r e = if-case (λ z. r ≡ z → r ≤ 9) (ltb b shortEnd) 3 9 (λ t f. omega arith) (λ t f. omega arith) e
+box-small elements b r e = omega arith
+
+pub not-boxed : (k n : ℕ) → Rest (kindsOnto (λ s. ltb 0 (markWidth s 1)) kinds []) k → false ≡ boxes (styleOf k) n
+unfolding markWidth
+not-boxed k n r = rw (other (λ s. ltb 0 (markWidth s 1)) refl k r)
+
+-- the bytes of a row without a mark, and how many rows are due in its place
+abbrev pub Bare : (elements : Bool) → (kind number size children : ℕ) → Type 0
+Bare e k n y m = (y ≡ bare (modeIs e) k n) × (m ≡ if (eqb k 0) 2 0)
+
+pub item-bare : (e : Bool) (k n y : ℕ) → e ≡ true → ¬ (k ≡ 0) → y ≡ itemWidth (styleOf k) + letters (styleOf k) n → Bare e k n y 0
+item-bare e k n y i z f = (f ∙ rw (i, item-wide (styleOf k) n 0), rw (ne-eqb k 0 z))
+
+no-number : (k n y : ℕ) → y ≡ length (numberHead (styleOf k) (k % 256) n) → 0 < y → ¬ (k ≡ 0)
+unfolding styleOf lookup kinds numberHead
+no-number k n y f h e = let z : y ≡ 0 = rw e at f in omega arith
+
+pub number-bare : (e : Bool) (k n y : ℕ) → e ≡ false → y ≡ length (numberHead (styleOf k) (k % 256) n) → 0 < y → Bare e k n y 0
+number-bare e k n y i f h =
+    ⊎-elim (λ z. absurd (let a : y ≡ 0 = rw z at f in omega arith))
+    (λ z. (f ∙ rw (i, z .ahead, append-nil) (omega (arith, z .texts)), rw (ne-eqb k 0 (no-number k n y f h)))) (number-front (styleOf k) (k % 256) n 0 [])
+
+pub pair-bare : (e : Bool) (k n : ℕ) → e ≡ false → k ≡ 0 → Bare e k n 1 2
+unfolding styleOf lookup kinds head letters
+pair-bare e k n i f = rw (i, f) (refl, refl)
+
+pub other-bare : (e : Bool) (k n : ℕ) (s : Style) (y z : ℕ) → e ≡ false → ¬ (k ≡ 0) → s ≡ styleOf k → y ≡ length (head s (k % 256) n 0) → z ≡ letters s n → Bare e k n (y + z) 0
+other-bare e k n s y z i h f a b = (rw (i, a, b, f), rw (ne-eqb k 0 h))
+
+bare-small : (m : Mode) (k n : ℕ) → bare m k n ≤ 9 + letters (styleOf k) n
+bare-small values k n = omega (arith, head-short k (k % 256) n 0)
+bare-small elements k n = omega (arith, item-wide (styleOf k) n 0, item-short k)
+
+module _ (w : List ℕ) (c : Point) (h : Ready w c) (y m : ℕ) (f : Bare (c .elements) (kindOn w c) (numberOn w c) y m) where
+  pub past-asks : m ≤ 2 → (c .row + 1 < 2 ^ 64) × (c .size + y < 2 ^ 64) × (0 < c .left) × (c .left + m < 2 ^ 64)
+  past-asks i = (h .row, omega (arith, h .small, f .0, bare-small (modeIs (c .elements)) (kindOn w c) (numberOn w c)), h .some, omega (arith, h .left))
+
+  pub past-taken : (st : List ℕ) (b : Bool) → b ≡ boxes (styleOf (kindOn w c)) (numberOn w c) → b ≡ false → (r : Point) → r ≡ beyond c y m → (r ≡ taken c (kindOn w c) (numberOn w c)) × (st ≡ stacked st c (kindOn w c) (numberOn w c))
+  past-taken st b i j r g = rw (sym i ∙ j) (g ∙ rw (f .0, f .1), refl)

@@ -1,24 +1,27 @@
--- The bytes of a number and of letters by their kind, and which rows are open.
-use Prim.Native.Nat.{ℕ, _+_, _%_, _^_, _≤_, _<_}
+-- The bytes of a number and of letters by their kind, and rows with children.
+use Prim.Native.Nat.{ℕ, zero, suc, _+_, _%_, _^_, _≤_, _<_}
 use mathlib.Core.Path.{_≡_, refl, sym, _∙_, subst}
 use mathlib.Core.List.{List, []}
-use mathlib.Core.Bool.{Bool, true, false, _&&_}
+use mathlib.Core.Bool.{Bool, true, false, not, _&&_}
 use native.Mathlib.Nat.{pow-le-pow-right}
 use native.Mathlib.Omega.{arith}
 use borrow.Author.Tests.{lt-ltb, le-ltb, le-leb, lt-leb, eq-eqb, ne-eqb}
-use lib.Dec.{T, eqb, leb, ltb, lit<}
+use lib.Dec.{T, eqb, eqb→eq, leb, leb→le, ltb, ltb→lt, lit<}
 use lib.ListN.{length, take}
 use Rattle.standard.specs.Choose.{if}
-use Rattle.standard.specs.Kinds.{Short, never, flag, unsigned, signed, Style, foreign, numbered, blob, lettered, listed, mapped, arrayed, describing, kinds, styleOf, fair, clean}
-use Rattle.standard.specs.Table.{most, ranged}
-use Rattle.standard.specs.Encode.{shortEnd, fitsByte, shortest}
+use Rattle.standard.specs.Tree.{Trees}
+use Rattle.standard.specs.Kinds.{Short, never, flag, unsigned, signed, Style, foreign, numbered, blob, lettered, listed, mapped, arrayed, describing, kinds, styleOf, isKind, member, fair, clean}
+use Rattle.standard.specs.Table.{most, Spot, any, first, ranged, letters, children, firstIn}
+use Rattle.standard.specs.Encode.{shortEnd, fitsByte, shortest, headed, encode*, payloads}
+use Rattle.standard.specs.Facts.{and-left, and-right}
 use Rattle.laws.specs.Numbers.{length-be}
 use Rattle.standard.proofs.Lookup.{Rest}
-use Rattle.writer.specs.Heads.{head}
-use Rattle.writer.proofs.Bodies.{head-short}
-use Rattle.writer.specs.Filling.{isNumber}
-use Rattle.writer.specs.Sizing.{holder, opens, numberSize, textSize}
-use Rattle.writer.proofs.Tabled.{kindsOnto, other}
+use Rattle.writer.specs.Heads.{head, itemWidth, bodyOf, Mode, values, elements}
+use Rattle.writer.specs.Marks.{markWidth}
+use Rattle.writer.specs.Direct.{isNumber}
+use Rattle.writer.specs.Sizing.{headSize, codeWidth, nests, opens, numberSize, textSize, openHead, bodySize}
+use Rattle.writer.proofs.Bodies.{enclosed-width, item-wide, head-short}
+use Rattle.writer.proofs.Tabled.{allKinds, of-kind, kindsOnto, other}
 use Rattle.writer.proofs.Direct.{coded-long, flag-long}
 
 -- The bytes of a number
@@ -60,7 +63,7 @@ pub boolean-yes : (y x c n : ℕ) → n ≤ 1 → 1 ≡ if (ranged (numbered (fl
 unfolding ranged fair shortest
 boolean-yes y x c n h = rw (lt-ltb n 256 (omega arith), le-leb n 1 h) (sym (flag-long (eqb n 0) x y))
 
-and-true : (b : Bool) → (b && true) ≡ b
+pub and-true : (b : Bool) → (b && true) ≡ b
 and-true true = refl
 and-true false = refl
 
@@ -117,15 +120,97 @@ module _ (k n : ℕ) (x : List ℕ) where
   unfolding textSize
   text-good h i e z f = rw (le-leb n most h, le-leb n (length x) i, e, f)
 
--- Open rows
+-- Rows with children
 
-pub empty-closed : (s : Style) (k n : ℕ) → n ≡ 0 → false ≡ opens s k n
-unfolding opens
-empty-closed s k n e = rw (le-ltb 0 n (omega arith)) (sym (and-false (holder s)))
+-- the spot of the first child of a row of that kind
+abbrev pub spotIn : (kind : ℕ) → Spot
+spotIn k = if (eqb k 0xf0) first any
+
+-- does a row hold values with codes of their own
+abbrev pub holder : Style → Bool
+holder s = ltb (codeWidth s 1) (children s 1)
+
+-- what the style of a row with children says, by its kind
+pub record NestRow (s : Style) (k n : ℕ) : Type 0 where
+  pub known : isKind s ≡ true
+  pub silent : letters s n ≡ 0
+  pub full : children s n ≡ n
+  pub spot : firstIn s n ≡ spotIn k
+  pub marked : markWidth s n ≡ if (eqb k 0) 0 3
+  pub bodied : (cs : Trees) → bodyOf s cs ≡ if (eqb k 0xf0) (headed cs (payloads cs)) (encode* cs)
+  pub body : (z : ℕ) → codeWidth s n + z ≡ bodySize k z
+  pub headed : (b : ℕ) → headSize values s k n b ≡ openHead values k b
+  pub wide : T (member s) → itemWidth s ≡ 8
+  pub fit : member s ≡ leb 0xd0 k
+  pub held : holder s ≡ not (eqb k 0xf0)
+
+-- kinds of rows with children: only described values are of kind 0, and only arrays of kind f0
+unfoldable pub named : ℕ → Style → Bool
+named k foreign = true
+named k (numbered s w) = not (eqb k 0)
+named k (blob w) = not (eqb k 0)
+named k (lettered s) = not (eqb k 0)
+named k (listed e s) = leb 0xd0 k && ltb k 0xf0
+named k (mapped s) = leb 0xd0 k && ltb k 0xf0
+named k (arrayed s) = eqb k 0xf0
+named k describing = eqb k 0
+
+pub is-named : (k : ℕ) → T (named k (styleOf k))
+unfolding kinds named allKinds
+is-named k = of-kind named k tt tt
+
+pub between : (k : ℕ) → T (leb 0xd0 k && ltb k 0xf0) → (eqb k 0 ≡ false) × (eqb k 0xf0 ≡ false) × (leb 0xd0 k ≡ true)
+between k t =
+    let a = leb→le 0xd0 k (and-left (leb 0xd0 k) (ltb k 0xf0) t) in
+    let b = ltb→lt k 0xf0 (and-right (leb 0xd0 k) (ltb k 0xf0) t) in
+    (ne-eqb k 0 (λ e. omega arith), ne-eqb k 0xf0 (λ e. omega arith), le-leb 0xd0 k a)
+
+counted : (n : ℕ) → 0 < n → eqb n 0 ≡ false
+counted n h = ne-eqb n 0 (λ (z : n ≡ 0). omega arith)
+
+nest-style : (s : Style) (k n : ℕ) → T (named k s) → 0 < children s n → NestRow s k n
+unfolding named isKind letters children firstIn markWidth codeWidth head itemWidth member bodyOf
+nest-style foreign k n t h = absurd (omega arith)
+nest-style (numbered s w) k n t h = absurd (omega arith)
+nest-style (blob w) k n t h = absurd (omega arith)
+nest-style (lettered s) k n t h = absurd (omega arith)
+nest-style (listed a s) k n t h =
+    let e = between k t in
+    record { known = refl; silent = refl; full = refl; spot = rw (e .1); marked = rw (e .0, counted n h); body = λ z. rw (e .1) (omega arith); headed = λ b. rw (e .0, counted n h) (enclosed-width s (k % 256) n b); wide = λ m. refl; fit = sym (e .2); held = rw (e .1); bodied = λ cs. rw (e .1) }
+nest-style (mapped s) k n t h =
+    let e = between k t in
+    record { known = refl; silent = refl; full = refl; spot = rw (e .1); marked = rw (e .0, counted n h); body = λ z. rw (e .1) (omega arith); headed = λ b. rw (e .0) (enclosed-width s (k % 256) n b); wide = λ m. refl; fit = sym (e .2); held = rw (e .1); bodied = λ cs. rw (e .1) }
+nest-style (arrayed s) k n t h =
+    rw (eqb→eq k 0xf0 t)
+    (record { known = refl; silent = refl; full = refl; spot = refl; marked = rw (counted n h); body = λ z. rw (counted n h); headed = λ b. enclosed-width s 0xf0 n b; wide = λ m. refl; fit = refl; held = refl; bodied = λ cs. refl })
+nest-style describing k n t h =
+    rw (eqb→eq k 0 t) (record { known = refl; silent = refl; full = refl; spot = refl; marked = refl; body = λ z. omega arith; headed = λ b. refl; wide = λ m. absurd m; fit = refl; held = refl; bodied = λ cs. refl })
+
+pub nest-row : (k n : ℕ) → 0 < children (styleOf k) n → NestRow (styleOf k) k n
+nest-row k n = nest-style (styleOf k) k n (is-named k)
+
+pub nest-head : {s : Style} {k n : ℕ} → NestRow s k n → (m : Mode) → (m ≡ elements → T (member s)) → (b : ℕ) → headSize m s k n b ≡ openHead m k b
+nest-head r values f b = r .headed b
+nest-head {s = s} {n = n} r elements f b = item-wide s n b ∙ r .wide (f refl)
+
+-- a row has children or none
+pub nest-case : {P : Type 0} (k n : ℕ) → (children (styleOf k) n ≡ 0 → P) → (0 < children (styleOf k) n → NestRow (styleOf k) k n → P) → P
+nest-case {P = P} k n f g = go (children (styleOf k) n) refl
+  where
+    go : (m : ℕ) → children (styleOf k) n ≡ m → P
+    go zero e = f e
+    go (suc m) e = let h : 0 < children (styleOf k) n = omega arith in g h (nest-row k n h)
+
+pub bare-closed : (s : Style) (k n : ℕ) → children s n ≡ 0 → false ≡ opens s k n
+unfolding opens nests
+bare-closed s k n e = rw (e, and-false (not (eqb k 0xf0)))
+
+pub empty-closed : (k n : ℕ) → n ≡ 0 → false ≡ opens (styleOf k) k n
+empty-closed k n e = nest-case k n (bare-closed (styleOf k) k n) (λ h r. absurd (omega (arith, r .full)))
 
 pub not-open : (k n : ℕ) → Rest (kindsOnto holder kinds []) k → false ≡ opens (styleOf k) k n
-unfolding opens holder
-not-open k n r = rw (other holder refl k r)
+unfolding opens codeWidth children
+not-open k n t = nest-case k n (bare-closed (styleOf k) k n) (λ h r. rw (sym (r .held) ∙ other holder refl k t))
 
 -- Lengths of heads
 

@@ -25,7 +25,7 @@ pub sets-swap : (l : List ℕ) (i : ℕ) (xs : List ℕ) (k : ℕ) (ys : List �
 sets-swap l i xs k [] h = refl
 sets-swap l i xs k (b ∷ ys) h = sets-swap (set l k b) i xs (suc k) ys (omega arith) ∙ ap (λ (z : List ℕ). sets z (suc k) ys) (sym (sets-set l i xs k b h))
 
-drop-sets : (l : List ℕ) (i : ℕ) (xs : List ℕ) (n : ℕ) → i + length xs ≤ n → drop n (sets l i xs) ≡ drop n l
+pub drop-sets : (l : List ℕ) (i : ℕ) (xs : List ℕ) (n : ℕ) → i + length xs ≤ n → drop n (sets l i xs) ≡ drop n l
 drop-sets l i [] n h = refl
 drop-sets l i (a ∷ xs) n h = drop-sets (set l i a) (suc i) xs n (omega arith) ∙ drop-set-lt n l i a (omega arith)
 

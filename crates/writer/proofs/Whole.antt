@@ -15,8 +15,9 @@ use Rattle.laws.specs.Answers.{out}
 use Rattle.laws.specs.Bounds.{rows-length}
 use Rattle.laws.specs.Tables.{tree-sound}
 use Rattle.standard.specs.declared.refusal.Refusal.{Refusal}
+use Rattle.writer.specs.Heads.{modeOf}
 use Rattle.writer.specs.Marks.{marks, marks*}
-use Rattle.writer.specs.Sizing.{sizeIn, total, Marked, values}
+use Rattle.writer.specs.Sizing.{totalFrom, Marked, valuesAt, begin}
 use Rattle.standard.specs.Outcomes.{levelMost}
 use Rattle.writer.specs.Tables.{Fitting}
 use Rattle.writer.specs.declared.sizing.Sized.the-variants.{Fits, Refused}
@@ -24,7 +25,7 @@ use Rattle.writer.specs.declared.sizing.Extent.{Extent}
 use Rattle.writer.proofs.Sums.{Found, found, unfit}
 
 -- one value from the beginning
-one-value : (l : ℕ) (w x : List ℕ) → values w x l any 1 0 0 ≡ _>>=_ (tree l any 0 w x) (λ q. got (more (q .0) none, q .1, q .2))
+one-value : (l : ℕ) (w x : List ℕ) → valuesAt w x l any 1 begin ≡ _>>=_ (tree l any 0 w x) (λ q. got (more (q .0) none, q .1, q .2))
 unfolding several
 one-value l w x = go (tree l any 0 w x)
   where
@@ -44,8 +45,8 @@ record One (l : ℕ) (w x : List ℕ) (e : Extent) : Type 0 where
   rowsAre : w ≡ rows value ++ left
   textIs : x ≡ text value ++ tail
 
-one : (l : ℕ) (w x : List ℕ) (e : Extent) → Found any 0 0 0 0 (values w x l any 1 0 0) e → One l w x e
-unfolding sizeIn encode* tall* text* marks*
+one : (l : ℕ) (w x : List ℕ) (e : Extent) → Found any begin (valuesAt w x l any 1 begin) e → One l w x e
+unfolding modeOf encode* tall* text* marks*
 one l w x e f = go (tree l any 0 w x) refl
   where
     go : (a : Answer (Tree × List ℕ × List ℕ)) → tree l any 0 w x ≡ a → One l w x e
@@ -74,7 +75,7 @@ pub odd-no : (l : ℕ) (w x : List ℕ) → length w % 2 ≡ 1 → size l w x �
 unfolding size bytesOf table
 odd-no l w x h = rw (ne-eqb (length w % 2) 0 (λ e. omega arith))
 
-tree-no : (l : ℕ) (w x : List ℕ) (a : ℕ) (p : Place) → values w x l any 1 0 0 ≡ refuse a p → tree l any 0 w x ≡ refuse a p
+tree-no : (l : ℕ) (w x : List ℕ) (a : ℕ) (p : Place) → valuesAt w x l any 1 begin ≡ refuse a p → tree l any 0 w x ≡ refuse a p
 tree-no l w x a p e = go (tree l any 0 w x) refl
   where
     go : (b : Answer (Tree × List ℕ × List ℕ)) → tree l any 0 w x ≡ b → tree l any 0 w x ≡ refuse a p
@@ -91,13 +92,13 @@ module _ (l : ℕ) (w x : List ℕ) (h : ¬ (length w % 2 ≡ 1)) where
   even : length w % 2 ≡ 0
   even = omega arith
 
-  pub value-no : (f : Refusal) → Refused f ≡ total any 0 0 0 0 (values w x l any 1 0 0) → size l w x ≡ refuse (f .number) (at (f .place))
+  pub value-no : (f : Refusal) → Refused f ≡ totalFrom any begin (valuesAt w x l any 1 begin) → size l w x ≡ refuse (f .number) (at (f .place))
   unfolding size bytesOf table
-  value-no f e = rw (even, tree-no l w x (f .number) (at (f .place)) (unfit any 0 0 0 0 (values w x l any 1 0 0) f e))
+  value-no f e = rw (even, tree-no l w x (f .number) (at (f .place)) (unfit any begin (valuesAt w x l any 1 begin) f e))
 
-  module _ (e : Extent) (f : Fits e ≡ total any 0 0 0 0 (values w x l any 1 0 0)) where
+  module _ (e : Extent) (f : Fits e ≡ totalFrom any begin (valuesAt w x l any 1 begin)) where
     o : One l w x e
-    o = one l w x e (found any 0 0 0 0 (values w x l any 1 0 0) e f)
+    o = one l w x e (found any begin (valuesAt w x l any 1 begin) e f)
 
     spent-some : (a i : ℕ) (r : List ℕ) → 0 < length r → spent a i r ≡ refuse a (at i)
     unfolding spent
@@ -134,7 +135,7 @@ module _ (l : ℕ) (w x : List ℕ) (h : ¬ (length w % 2 ≡ 1)) where
       too-long a = rw (whole, lt-leb (length (encode (o .value))) most (rw (← o .size) a))
 
       -- the values of the table, as sizing names them
-      whole-values : values w x l any 1 0 0 ≡ got (more (o .value) none, o .left, o .tail)
+      whole-values : valuesAt w x l any 1 begin ≡ got (more (o .value) none, o .left, o .tail)
       whole-values = one-value l w x ∙ rw (o .isTree)
 
 marked-one : (b a : List ℕ) (m : ℕ) (v : Tree) (u y : List ℕ) (q : Answer (Trees × List ℕ × List ℕ)) → q ≡ got (more v none, u, y) → Marked b m a q → m + length (marks v) ≤ length b → a ≡ sets b m (marks v)
@@ -144,8 +145,8 @@ marked-one b a m v u y q e h r =
     rw append-nil at (g (rw append-nil r))
 
 -- a table that fits, at the level limit of the entry points
-pub fitting : (w x : List ℕ) → ¬ (length w % 2 ≡ 1) → (e : Extent) → Fits e ≡ total any 0 0 0 0 (values w x levelMost any 1 0 0) → length w ≤ 2 * (e .row) → length x ≤ e .text → e .size ≤ most → (b a : List ℕ)
-    → Marked b 0 a (values w x levelMost any 1 0 0) → Fitting w x b a e
+pub fitting : (w x : List ℕ) → ¬ (length w % 2 ≡ 1) → (e : Extent) → Fits e ≡ totalFrom any begin (valuesAt w x levelMost any 1 begin) → length w ≤ 2 * (e .row) → length x ≤ e .text → e .size ≤ most → (b a : List ℕ)
+    → Marked b 0 a (valuesAt w x levelMost any 1 begin) → Fitting w x b a e
 fitting w x h e f y z s b a m =
     let v = o levelMost w x h e f in
     record {
@@ -154,12 +155,12 @@ fitting w x h e f y z s b a m =
       size = v .size;
       small = s;
       mark = v .mark;
-      kept = λ r. marked-one b a 0 (v .value) (v .left) (v .tail) (values w x levelMost any 1 0 0) (whole-values levelMost w x h e f y z) m (omega arith);
+      kept = λ r. marked-one b a 0 (v .value) (v .left) (v .tail) (valuesAt w x levelMost any 1 begin) (whole-values levelMost w x h e f y z) m (omega arith);
     }
 
-pub row-inside : (l : ℕ) (w x : List ℕ) (e : Extent) → Fits e ≡ total any 0 0 0 0 (values w x l any 1 0 0) → 2 * (e .row) ≤ length w
+pub row-inside : (l : ℕ) (w x : List ℕ) (e : Extent) → Fits e ≡ totalFrom any begin (valuesAt w x l any 1 begin) → 2 * (e .row) ≤ length w
 row-inside l w x e f =
-    let v = one l w x e (found any 0 0 0 0 (values w x l any 1 0 0) e f) in
+    let v = one l w x e (found any begin (valuesAt w x l any 1 begin) e f) in
     omega (arith, simp length-append at (ap length (v .rowsAre)), rows-length (v .value), v .row)
 
 pub fits-bytes : (w x b a : List ℕ) (e : Extent) (f : Fitting w x b a e) → bytesOf levelMost w x ≡ got (encode (f .tree))

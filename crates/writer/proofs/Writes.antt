@@ -7,21 +7,20 @@ use borrow.Author.Tests.{le-leb, lt-leb}
 use lib.ListN.{length, take, drop, length-append}
 use lib.Seq.{sets, length-sets, sets-eq, take-at, drop-at, length-take-le}
 use Rattle.standard.specs.Answer.{Answer, got, refuse, Place, at, _>>=_, outputShort}
-use Rattle.standard.specs.Tree.{Tree, rows, text}
-use Rattle.standard.specs.Table.{tree, table}
+use Rattle.standard.specs.Tree.{Tree}
+use Rattle.standard.specs.Table.{any, tree, table}
 use Rattle.standard.specs.Encode.{encode}
 use Rattle.standard.specs.Outcomes.{bytesOf, size, Writing, writtenTo, write}
-use Rattle.laws.specs.Bounds.{rows-length}
 use Rattle.laws.specs.Tables.{table-holds}
-use Rattle.laws.specs.Stores.{front-over}
+use Rattle.laws.specs.Stores.{front-over, drop-take}
+use Rattle.writer.specs.Heads.{modeOf}
 use Rattle.writer.specs.Marks.{marks}
 use Rattle.writer.specs.Marking.{Markable}
-use Rattle.writer.specs.Filling.{flat, Fillable}
+use Rattle.writer.specs.Filling.{Fillable}
 use Rattle.standard.specs.Outcomes.{levelMost}
 use Rattle.writer.specs.Tables.{Fitting, Writable, bytesIn, marksIn}
 use Rattle.writer.specs.declared.sizing.Extent.{Extent}
-use Rattle.writer.proofs.Flat.{Flattened, flattened}
-use Rattle.writer.proofs.Rows.{boxed-covers}
+use Rattle.writer.proofs.Rows.{marks-fit}
 use Rattle.writer.proofs.Whole.{fits-bytes}
 
 -- what a run of stores leaves around itself
@@ -40,9 +39,6 @@ covered d i xs ys e h =
     sets-eq ys (sets d i xs) 0 (rw length-sets (omega arith)) ∙ rw (z, f) (sym (sets-eq ys d 0 (omega arith) ∙ rw z))
 
 module _ (w x near : List ℕ) (n m : ℕ) (d : List ℕ) (g : Writable w x near n m d) where
-  flatly : Flattened (g .tree)
-  flatly = flattened (g .tree) levelMost (table-holds levelMost w x (g .tree) (g .isTable) .2) (omega (arith, g .size, g .small))
-
   pub near-marks : m ≤ length near → (d₁ : List ℕ) → d₁ ≡ sets d (n - m) (take m (drop 0 near)) → d₁ ≡ sets d (n - m) (marksIn (table levelMost w x))
   near-marks h d₁ e = e ∙ rw (g .isTable, g .close h)
 
@@ -55,34 +51,33 @@ module _ (w x near : List ℕ) (n m : ℕ) (d : List ℕ) (g : Writable w x near
   far-marks h d₁ e = rw (g .isTable) (e (g .tree) (markable h))
 
   module _ (h : m ≤ n) (d₁ : List ℕ) (e : d₁ ≡ sets d (n - m) (marksIn (table levelMost w x))) where
-    tail-marks : drop (n - m) (take n d₁) ≡ marks (g .tree)
-    tail-marks = rw (e, g .isTable) (around d (n - m) (marks (g .tree)) n (omega (arith, g .mark)) (g .room) .0)
+    tail-marks : take (length (marks (g .tree))) (drop (n - m) d₁) ≡ marks (g .tree)
+    tail-marks =
+        let z : n - (n - m) ≡ length (marks (g .tree)) = omega (arith, g .mark) in
+        rw (e, g .isTable, ← z) (sym (drop-take (n - m) n (sets d (n - m) (marks (g .tree)))) ∙ around d (n - m) (marks (g .tree)) n (omega (arith, g .mark)) (g .room) .0)
 
-    table-bytes : flat 0 w x (drop (n - m) (take n d₁)) ≡ encode (g .tree)
-    table-bytes =
-        let t = table-holds levelMost w x (g .tree) (g .isTable) in
-        rw (tail-marks, t .0, t .1) (flatly .bytes)
-
-    pub fillable : Fillable w x d₁ n (n - m)
+    pub fillable : Fillable w x d₁ n (n - m) (g .tree)
     fillable =
         let t = table-holds levelMost w x (g .tree) (g .isTable) in
         record {
-          even = rw (t .0) (omega (arith, rows-length (g .tree)));
+          levels = levelMost;
+          rowsAre = t .0;
+          textIs = t .1;
+          valid = t .2;
+          size = g .size;
+          small = g .small;
           room = rw (e, length-sets) (g .room);
-          bytes = rw table-bytes (sym (g .size));
-          marked = rw (t .0) (omega (arith, flatly .boxes, g .mark));
-          texts = rw (t .0, t .1) (flatly .letters);
+          placed = omega (arith, g .mark);
+          marked = tail-marks;
         }
 
-    pub all-bytes : (d₂ : List ℕ) → d₂ ≡ sets d₁ 0 (flat 0 w x (drop (n - m) (take n d₁))) → d₂ ≡ sets d 0 (bytesIn (table levelMost w x))
-    all-bytes d₂ f =
-        f ∙ rw (table-bytes, e, g .isTable) (covered d (n - m) (marks (g .tree)) (encode (g .tree)) (omega (arith, g .mark, g .size)) (omega (arith, g .size, g .room)))
+    pub all-bytes : (d₂ : List ℕ) → ((v : Tree) → Fillable w x d₁ n (n - m) v → d₂ ≡ sets d₁ 0 (encode v)) → d₂ ≡ sets d 0 (bytesIn (table levelMost w x))
+    all-bytes d₂ f = f (g .tree) fillable ∙ rw (e, g .isTable) (covered d (n - m) (marks (g .tree)) (encode (g .tree)) (omega (arith, g .mark, g .size)) (omega (arith, g .size, g .room)))
 
 -- A table that fits can be written
 pub marks-inside : (w x b a : List ℕ) (e : Extent) → Fitting w x b a e → e .mark ≤ e .size
-marks-inside w x b a e f =
-    let k = flattened (f .tree) levelMost (table-holds levelMost w x (f .tree) (f .isTable) .2) (omega (arith, f .size, f .small)) in
-    omega (arith, boxed-covers 0 (rows (f .tree)) (text (f .tree)) (marks (f .tree)), k .boxes, ap length (k .bytes), f .size, f .mark)
+unfolding modeOf
+marks-inside w x b a e f = omega (arith, marks-fit (f .tree) levelMost any tt (table-holds levelMost w x (f .tree) (f .isTable) .2), f .size, f .mark)
 
 pub writable : (w x b a : List ℕ) (e : Extent) → Fitting w x b a e → length a ≡ length b → (d : List ℕ) → e .size ≤ length d → Writable w x a (e .size) (e .mark) d
 writable w x b a e f z d h =

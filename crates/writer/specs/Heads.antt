@@ -1,13 +1,14 @@
 -- What stands before the text of a row: its format code, and its number or its size and count (docs/FORMAT.md, 3).
--- `compact-head` and `wide-head` of proofs/Bodies.antt say that a value is its head, its text and its body.
+-- `compact-head` and `wide-head` of proofs/Bodies.antt say that a value and an element are their head, their text and their body.
 use Prim.Native.Nat.{ℕ, _+_}
 use mathlib.Core.List.{List, [], _∷_, _++_}
 use lib.Dec.{eqb, ltb}
 use Rattle.standard.specs.Choose.{if}
 use Rattle.standard.specs.Bytes.{be}
-use Rattle.standard.specs.Tree.{Trees}
+use Rattle.standard.specs.Tree.{Tree, Trees}
 use Rattle.standard.specs.Kinds.{Style, foreign, numbered, blob, lettered, listed, mapped, arrayed, describing}
-use Rattle.standard.specs.Encode.{shortEnd, shortest, headed, encode*, payloads}
+use Rattle.standard.specs.Table.{Spot, any, first, like, firstIn}
+use Rattle.standard.specs.Encode.{shortEnd, shortest, headed, encode, encode*, item, payloads}
 use Rattle.writer.specs.declared.head.Head.{Head}
 
 -- code, size and count before a body of so many bytes
@@ -25,15 +26,26 @@ head (mapped s) k n b = enclosure s k n b
 head (arrayed s) k n b = enclosure s k n b
 head describing k n b = k ∷ []
 
--- the width of the number before the text of an element of an array
+-- before the text of an element of an array whose body has so many bytes: it has no code of its own and no short form
+unfoldable pub itemHead : Style → (number body : ℕ) → List ℕ
+itemHead foreign n b = []
+itemHead (numbered s w) n b = be w n
+itemHead (blob w) n b = []
+itemHead (lettered s) n b = be 4 n
+itemHead (listed e s) n b = be 4 (4 + b) ++ be 4 n
+itemHead (mapped s) n b = be 4 (4 + b) ++ be 4 n
+itemHead (arrayed s) n b = be 4 (4 + b) ++ be 4 n
+itemHead describing n b = []
+
+-- and how many bytes that is
 unfoldable pub itemWidth : Style → ℕ
 itemWidth foreign = 0
 itemWidth (numbered s w) = w
 itemWidth (blob w) = 0
 itemWidth (lettered s) = 4
-itemWidth (listed e s) = 0
-itemWidth (mapped s) = 0
-itemWidth (arrayed s) = 0
+itemWidth (listed e s) = 8
+itemWidth (mapped s) = 8
+itemWidth (arrayed s) = 8
 itemWidth describing = 0
 
 -- the bytes of a row's children: an array's stand behind their code
@@ -53,3 +65,29 @@ fields c w x v y = c ∷ be w x ++ be v y
 
 abbrev pub headIs : Head → List ℕ
 headIs h = fields (h .code) (h .width) (h .number) (h .«count_width») (h .count)
+
+-- Rows are values, with codes of their own, or elements of an array
+pub data Mode : Type 0 where
+  values elements : Mode
+
+unfoldable pub modeOf : Spot → Mode
+modeOf any = values
+modeOf first = elements
+modeOf (like k) = elements
+
+-- what the children of a row are
+abbrev pub inside : Style → (number : ℕ) → Mode
+inside s n = modeOf (firstIn s n)
+
+-- the bytes of a row before its text, of a row with its children, and of several
+abbrev pub headIn : Mode → Style → (kind number body : ℕ) → List ℕ
+headIn values s k n b = head s k n b
+headIn elements s k n b = itemHead s n b
+
+abbrev pub written : Mode → Tree → List ℕ
+written values v = encode v
+written elements v = item v
+
+abbrev pub written* : Mode → Trees → List ℕ
+written* values vs = encode* vs
+written* elements vs = payloads vs

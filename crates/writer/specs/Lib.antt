@@ -3,6 +3,7 @@ pub mod Heads
 pub mod Rows
 pub mod Marks
 pub mod Sizing
+pub mod Direct
 pub mod Filling
 pub mod Marking
 pub mod Tables

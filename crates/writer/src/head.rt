@@ -19,6 +19,9 @@ use standard::kind::Style;
 // Texts and bodies of fewer bytes than this take the short form.
 pub(crate) const SHORT_END: u64 = 255;
 
+// A mark's bytes.
+pub(crate) const MARK_WIDTH: usize = 3;
+
 // A format code, and up to two numbers behind it with their widths in bytes.
 pub struct Head {
     pub code: u8,
@@ -208,7 +211,10 @@ pub(crate) fn head_width(style: Style, kind: u64, number: u64, body: usize) -> u
     }
 }
 
-// The width of the number before the text of an element of an array, which has no code of its own and no short form.
+// Size and count of a list, a map or an array that is an element.
+pub(crate) const ITEM_WIDTH: usize = 8;
+
+// How many bytes stand before the text of an element of an array, which has no code of its own and no short form.
 pub(crate) fn item_width(style: Style) -> usize
     ensures { λ r. ⌜ r ≡ itemWidth (styleIs style) ⌝ }
 {
@@ -217,9 +223,9 @@ pub(crate) fn item_width(style: Style) -> usize
         Style::Numbered(_, width) => width,
         Style::Blob(_) => 0,
         Style::Lettered(_) => 4,
-        Style::Listed(_, _) => 0,
-        Style::Mapped(_) => 0,
-        Style::Arrayed(_) => 0,
+        Style::Listed(_, _) => ITEM_WIDTH,
+        Style::Mapped(_) => ITEM_WIDTH,
+        Style::Arrayed(_) => ITEM_WIDTH,
         Style::Describing => 0,
     }
 }

@@ -71,7 +71,7 @@ fn size_table(words: &[u64], text: &[u8], marks: &mut [u8]) -> Sized
 pub fn size(words: &[u64], text: &[u8]) -> Written
     ensures { λ r. ⌜ writtenIs r ≡ outcome.size levelMost (now (words .entry)) (now (text .entry)) ⌝ }
 {
-    let mut marks = [0u8; NEAR];
+    let mut marks = [0u8; 0];
     match size_table(words, text, &mut marks) {
         Sized::Refused(r) => Written::Refused(r),
         Sized::Fits(e) => Written::Length(e.size),

@@ -1,22 +1,23 @@
 // Marking: the sizes of all compounds of a table that sizing has accepted, without checks.
 //
-// One pass over the rows. A list or a map that is not empty goes onto a stack as three numbers: the bytes before it, the place of
-// its mark, and how many values are due behind it. When its last value is taken, the bytes since are the size of its body. The
-// values below a described one are due in its place, so it needs no stack.
+// One pass over the rows. A list, a map or an array that is not empty goes onto a stack as three numbers: the bytes before it, the place
+// of its mark, and how many rows are due behind it and what they are. When its last child is taken, the bytes since are the size of its
+// body. The values below a described one are due in its place, so it needs no stack.
 ghost use mathlib.Core.Path.{_≡_};
 ghost use mathlib.Core.List.{[], _∷_};
 ghost use Prim.Native.Nat.{ℕ, _+_, _-_, _*_, _%_, _^_, _≤_, _<_};
-ghost use lib.ListN.{length, getD};
+ghost use lib.ListN.{length};
 ghost use lib.Seq.{sets};
 ghost use Rattle.standard.specs.Bytes.{be};
-ghost use Rattle.standard.specs.Tree.{Tree, Trees};
+ghost use Rattle.standard.specs.Tree.{Tree};
 ghost use Rattle.standard.specs.Kinds.{unsigned, signed, styleOf};
-ghost use Rattle.standard.specs.Table.{first};
-ghost use Rattle.standard.specs.Encode.{shortest, payloads};
+ghost use Rattle.standard.specs.Table.{letters};
+ghost use Rattle.standard.specs.Encode.{shortest};
+ghost use Rattle.standard.specs.Outcomes.{levelMost};
+ghost use Rattle.writer.specs.Heads.{itemWidth};
 ghost use Rattle.writer.specs.Marks.{marks};
-ghost use Rattle.writer.specs.Filling.{numberHead};
-ghost use Rattle.writer.specs.Marking.{boxes, fromStart, beyond, entered, closed, overArray, Elements, SomeElements, Going, Onward, Markable, Tabled};
-use crate::filling;
+ghost use Rattle.writer.specs.Direct.{numberHead};
+ghost use Rattle.writer.specs.Marking.{boxes, boxWidth, modeIs, kindOn, numberOn, due, startOn, placeOn, fromStart, beyond, entered, closed, taken, stacked, Ready, Complete, Markable, Tabled};
 use crate::head;
 use crate::put;
 use standard::kind;
@@ -24,13 +25,14 @@ use standard::kind;
 // Three numbers for each of 32 levels.
 const STACK: usize = 96;
 
-// The next row, the bytes before it, the next mark, how many values are due before the innermost open list or map ends, and how many
-// numbers are on the stack.
+// The next row, the bytes before it, the next mark, how many rows are due before the innermost open compound ends, whether they are
+// elements of an array, and how many numbers are on the stack.
 pub struct Point {
     pub row: usize,
     pub size: usize,
     pub mark: usize,
     pub left: usize,
+    pub elements: bool,
     pub top: usize,
 }
 
@@ -44,6 +46,7 @@ impl Point {
             size: 0,
             mark,
             left: 1,
+            elements: false,
             top: 0,
         }
     }
@@ -58,18 +61,20 @@ impl Point {
             size: self.size + size,
             mark: self.mark,
             left: self.left - 1 + children,
+            elements: self.elements,
             top: self.top,
         }
     }
 }
 
-// Is a row a list or a map that is not empty.
+// Is a row a list, a map or an array that is not empty.
 fn is_boxed(kind: u64, number: u64) -> bool
     ensures { λ r. ⌜ r ≡ boxes (styleOf kind) number ⌝ }
 {
     match kind {
         0xd0 => 0 < number,
         0xd1 => 0 < number,
+        0xf0 => 0 < number,
         _ => false,
     }
 }
@@ -123,90 +128,72 @@ fn number_width(kind: u64, number: u64) -> usize
     }
 }
 
-// A list or a map begins.
-fn open(stack: &mut [usize], c: Point, number: usize) -> Point
-    requires { ⌜ (c .top + 3 ≤ length (now stack)) × (0 < c .left) × (c .row + 1 < 2 ^ 64) × (c .mark + 3 < 2 ^ 64) ⌝ }
-    ensures { λ r. ⌜ (r ≡ entered c number) × (now (stack .exit) ≡ sets (now (stack .entry)) (c .top) (c .size ∷ c .mark ∷ (c .left - 1) ∷ [])) ⌝ }
+// The bytes before a compound's body.
+fn box_width(elements: bool, body: usize) -> usize
+    ensures { λ r. ⌜ r ≡ boxWidth (modeIs elements) body ⌝ }
+{
+    if elements {
+        return head::ITEM_WIDTH;
+    }
+    head::compound_width(body)
+}
+
+// A list, a map or an array begins. The rows due behind it and what they are go onto the stack as one number: twice as many, and 1 more
+// for elements. The code of an array's elements is the first byte of its body.
+fn open(stack: &mut [usize; STACK], c: Point, kind: u64, number: usize) -> Point
+    requires { ⌜ (c .top + 3 ≤ 3 * levelMost) × (0 < c .left) × (c .left < 2 ^ 62) × (c .row + 1 < 2 ^ 64) × (c .size + 1 < 2 ^ 64) × (c .mark + 3 < 2 ^ 64) ⌝ }
+    ensures { λ r. ⌜ (r ≡ entered c kind number) × (now (stack .exit) ≡ sets (now (stack .entry)) (c .top) (c .size ∷ c .mark ∷ due (c .left - 1) (c .elements) ∷ [])) ⌝ }
 {
     let top = c.top;
     stack[top] = c.size;
     stack[top + 1] = c.mark;
-    stack[top + 2] = c.left - 1;
+    stack[top + 2] = 2 * (c.left - 1) + c.elements as usize;
+    let elements = kind == 0xf0;
     Point {
         row: c.row + 1,
-        size: c.size,
+        size: c.size + elements as usize,
         mark: c.mark + 3,
         left: number,
+        elements,
         top: top + 3,
     }
 }
 
-// The innermost list or map ends.
-fn close(stack: &[usize], out: &mut [u8], c: Point) -> Point
-    requires { ⌜ (3 ≤ c .top) × (c .top ≤ length (now stack)) × (getD (now stack) (c .top - 3) 0 ≤ c .size)
-        × (getD (now stack) (c .top - 3 + 1) 0 + 3 ≤ length (now out)) × (c .size + 9 < 2 ^ 64) ⌝ }
+// The innermost list, map or array ends.
+fn close(stack: &[usize; STACK], out: &mut [u8], c: Point) -> Point
+    requires { ⌜ Complete (now stack) (now out) c ⌝ }
     ensures { λ r. ⌜ (r ≡ closed (now (stack .entry)) c)
-        × (now (out .exit) ≡ sets (now (out .entry)) (getD (now (stack .entry)) (c .top - 3 + 1) 0) (be 3 (c .size - getD (now (stack .entry)) (c .top - 3) 0))) ⌝ }
+        × (now (out .exit) ≡ sets (now (out .entry)) (placeOn (now (stack .entry)) (c .top)) (be 3 (c .size - startOn (now (stack .entry)) (c .top)))) ⌝ }
 {
     let top = c.top - 3;
     let body = c.size - stack[top];
     put::put_three(out, stack[top + 1], body as u64);
+    let left = stack[top + 2];
+    let elements = left % 2 == 1;
     Point {
         row: c.row,
-        size: c.size + head::compound_width(body),
+        size: c.size + box_width(elements, body),
         mark: c.mark,
-        left: stack[top + 2],
+        left: left / 2,
+        elements,
         top,
     }
 }
 
-// The bytes of so many elements of an array, the first of them at `row`.
-fn size_elements(words: &[u64], count: usize, row: usize) -> usize
-    requires { ⌜ SomeElements (now words) count row ⌝ }
-    ensures { λ r. ⌜ ((cs : Trees) → Elements (now (words .entry)) count row first cs → r ≡ length (payloads cs)) ⌝ }
-{
-    let mut at = row;
-    let mut size: usize = 0;
-    let mut left = count;
-    while 0 < left {
-        let kind = words[2 * at];
-        let number = words[2 * at + 1];
-        let style = kind::style_of(kind);
-        size = size + (head::item_width(style) + style.letters(number) as usize);
-        at += 1;
-        left -= 1;
-    }
-    size
-}
-
-// An array with elements.
-fn take_array(words: &[u64], out: &mut [u8], c: Point, count: usize) -> Point
-    requires { ⌜ SomeElements (now words) count (c .row + 1) × (c .mark + 3 ≤ length (now out)) × (0 < c .left) × (c .row + 1 + count < 2 ^ 64) × (c .size < 2 ^ 62) ⌝ }
-    ensures { λ r. ⌜ ((cs : Trees) → Elements (now (words .entry)) count (c .row + 1) first cs → (r ≡ overArray c count (1 + length (payloads cs)))
-        × (now (out .exit) ≡ sets (now (out .entry)) (c .mark) (be 3 (1 + length (payloads cs))))) ⌝ }
-{
-    let next = c.row + 1;
-    let body = 1 + size_elements(words, count, next);
-    put::put_three(out, c.mark, body as u64);
-    Point {
-        row: next + count,
-        size: c.size + (head::compound_width(body) + body),
-        mark: c.mark + 3,
-        left: c.left - 1,
-        top: c.top,
-    }
-}
-
-// The next row, and of an array its elements too. Most rows go by their kind at once, as in sizing.
-fn take_row(words: &[u64], stack: &mut [usize], out: &mut [u8], c: Point) -> Point
-    requires { ⌜ Going (now words) (now stack) (now out) c × (0 < c .left) ⌝ }
-    ensures { λ r. ⌜ Onward (now (words .entry)) (now (stack .entry)) (now (out .entry)) c (now (stack .exit)) (now (out .exit)) r ⌝ }
+// The next row. Most values go by their kind at once, as in sizing.
+fn take_row(words: &[u64], stack: &mut [usize; STACK], c: Point) -> Point
+    requires { ⌜ Ready (now words) c ⌝ }
+    ensures { λ r. ⌜ (r ≡ taken c (kindOn (now (words .entry)) c) (numberOn (now (words .entry)) c))
+        × (now (stack .exit) ≡ stacked (now (stack .entry)) c (kindOn (now (words .entry)) c) (numberOn (now (words .entry)) c)) ⌝ }
 {
     let k = 2 * c.row;
     let kind = words[k];
     let number = words[k + 1];
     if is_boxed(kind, number) {
-        return open(stack, c, number as usize);
+        return open(stack, c, kind, number as usize);
+    }
+    if c.elements {
+        return c.past(item_size(kind, number), 0);
     }
     let size = number_width(kind, number);
     if 0 < size {
@@ -216,12 +203,17 @@ fn take_row(words: &[u64], stack: &mut [usize], out: &mut [u8], c: Point) -> Poi
         return c.past(1, 2);
     }
     let style = kind::style_of(kind);
-    let count = filling::elements_of(style, number) as usize;
-    if 0 < count {
-        return take_array(words, out, c, count);
-    }
     let letters = style.letters(number) as usize;
     c.past(head::head_width(style, kind, number, 0) + letters, 0)
+}
+
+// The bytes of an element without children.
+fn item_size(kind: u64, number: u64) -> usize
+    requires { ⌜ letters (styleOf kind) number < 2 ^ 62 ⌝ }
+    ensures { λ r. ⌜ r ≡ itemWidth (styleOf kind) + letters (styleOf kind) number ⌝ }
+{
+    let style = kind::style_of(kind);
+    head::item_width(style) + style.letters(number) as usize
 }
 
 // Puts the marks of a whole table into a buffer, from `mark` on.
@@ -235,7 +227,7 @@ pub(crate) fn mark_table(words: &[u64], out: &mut [u8], mark: usize)
         if c.left == 0 {
             c = close(&stack, out, c);
         } else {
-            c = take_row(words, &mut stack, out, c);
+            c = take_row(words, &mut stack, c);
         }
     }
 }

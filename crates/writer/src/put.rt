@@ -10,7 +10,7 @@ ghost use Rattle.standard.specs.Bytes.{be};
 ghost use Rattle.standard.specs.Kinds.{unsigned, signed, styleOf};
 ghost use Rattle.standard.specs.Table.{letters};
 ghost use Rattle.standard.specs.Encode.{shortest};
-ghost use Rattle.writer.specs.Filling.{numberHead, spelled, lettersRow, Put};
+ghost use Rattle.writer.specs.Direct.{numberHead, spelled, lettersRow, Put};
 use crate::head;
 use standard::format_code;
 use standard::kind;
@@ -162,6 +162,15 @@ pub(crate) fn put_sized(
     let size = put_coded(out, at, code, width, width as u64 + body);
     put_be(out, at + size, width, count);
     size + width
+}
+
+// The size and the count of an element with a body of so many bytes.
+pub(crate) fn put_fields(out: &mut [u8], at: usize, body: u64, count: u64)
+    requires { ⌜ (4 + body < 2 ^ 64) × (at + 8 ≤ length (now out)) ⌝ }
+    ensures { λ _. ⌜ now (out .exit) ≡ sets (now (out .entry)) at (be 4 (4 + body) ++ be 4 count) ⌝ }
+{
+    put_four(out, at, 4 + body);
+    put_four(out, at + 4, count);
 }
 
 // A boolean: a code for 1, and a code for 0.

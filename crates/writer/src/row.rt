@@ -30,7 +30,7 @@ fn is_allowed(spot: IsArrayElement, kind: u64, style: Style) -> bool
 {
     match spot {
         IsArrayElement::False => true,
-        IsArrayElement::FirstElement => style.is_plain(),
+        IsArrayElement::FirstElement => style.is_member(),
         IsArrayElement::OtherElement(first) => kind == first,
     }
 }

@@ -1,21 +1,21 @@
 // Sizing: the checks of all rows and the bytes that they will be written to (docs/FORMAT.md, 6.1).
 ghost use mathlib.Core.Path.{_≡_};
-ghost use Prim.Native.Nat.{_+_, _*_, _^_, _≤_, _<_};
-ghost use lib.Dec.{eqb, ltb};
-ghost use lib.ListN.{length, drop};
+ghost use mathlib.Core.Bool.{_&&_};
+ghost use Prim.Native.Nat.{_+_, _*_, _-_, _^_, _≤_, _<_};
+ghost use lib.Dec.{eqb};
+ghost use lib.ListN.{length, drop, getD};
 ghost use lib.Seq.{sets};
 ghost use Rattle.standard.specs.Choose.{if};
 ghost use Rattle.standard.specs.Bytes.{be};
-ghost use Rattle.standard.specs.Kinds.{styleOf};
+ghost use Rattle.standard.specs.Kinds.{styleOf, member};
 ghost use Rattle.standard.specs.Answer.{got};
-ghost use Rattle.standard.specs.Table.{any, first, next};
+ghost use Rattle.standard.specs.Table.{any, first, next, allowed};
 ghost use Rattle.standard.specs.InCode.{styleIs};
-ghost use Rattle.standard.specs.Encode.{shortEnd};
+ghost use Rattle.writer.specs.Heads.{values};
 ghost use Rattle.writer.specs.InCode.{spotIs};
-ghost use Rattle.writer.specs.Filling.{isLettered};
+ghost use Rattle.writer.specs.Direct.{isLettered};
 ghost use Rattle.writer.specs.Rows.{check};
-ghost use Rattle.writer.specs.Sizing.{opens, textSize, lettersSize, takenOf, other, codeWidth, values, totalFrom, Marked, Within, begin, past, inside, closed, MarkPut, Rowed};
-use crate::filling;
+ghost use Rattle.writer.specs.Sizing.{opens, arrays, textSize, lettersSize, takenOf, other, Nested, Finds, Within, Small, begin, past, beyond, passed, inside, openHead, bodySize, closed, MarkPut};
 use crate::head;
 use crate::number;
 use crate::put;
@@ -49,7 +49,7 @@ impl Extent {
 
     // Behind a row without children that has so many bytes of text and takes so many bytes.
     fn past(self, letters: usize, size: usize) -> Self
-        requires { ⌜ (self .row + 1 < 2 ^ 64) × (self .text + letters < 2 ^ 64) × (self .size + size < 2 ^ 64) ⌝ }
+        requires { ⌜ Small (past self letters size) ⌝ }
         ensures { λ r. ⌜ r ≡ past self letters size ⌝ }
     {
         Self {
@@ -60,7 +60,7 @@ impl Extent {
         }
     }
 
-    // At the first value in an open row.
+    // At the first child of a row.
     fn inside(self, kind: u64) -> Self
         requires { ⌜ (self .row + 1 < 2 ^ 64) × (self .mark + 3 < 2 ^ 64) ⌝ }
         ensures { λ r. ⌜ r ≡ inside self kind ⌝ }
@@ -87,7 +87,9 @@ pub enum Taken {
     Letters(usize, usize),
     // A list, a map or a described value, by its kind, with so many children.
     Open(u64, usize),
-    // Anything else: a row with 16 bytes of text, an array, an empty compound, a bad row, or none.
+    // An array with so many elements.
+    Array(usize),
+    // Anything else: a row with 16 bytes of text, an empty compound, a bad row, or none.
     Other,
 }
 
@@ -109,6 +111,18 @@ fn is_open(kind: u64, number: u64) -> bool
         }
         _ => false,
     }
+}
+
+// Is a row an array that has elements.
+fn is_array(kind: u64, number: u64) -> bool
+    ensures { λ r. ⌜ r ≡ arrays (styleOf kind) kind number ⌝ }
+{
+    if kind == 0xf0 {
+        if 0 < number {
+            return number <= kind::MOST;
+        }
+    }
+    false
 }
 
 // The bytes of a text with its code and its length, where it is good; 0 where it is not.
@@ -183,7 +197,46 @@ fn take_row(words: &[u64], text: &[u8], row: usize, from: usize, levels: usize) 
     if 0 < size {
         return Taken::Letters(number as usize, size);
     }
+    if is_array(kind, number) {
+        return Taken::Array(number as usize);
+    }
     Taken::Other
+}
+
+// Is a kind that arrays may hold allowed at a spot.
+fn is_like(spot: IsArrayElement, kind: u64) -> bool
+    ensures { λ r. ⌜ (member (styleOf kind) && r) ≡ (member (styleOf kind) && allowed (spotIs spot) kind) ⌝ }
+{
+    match spot {
+        IsArrayElement::False => true,
+        IsArrayElement::FirstElement => 0 < kind,
+        IsArrayElement::OtherElement(first) => kind == first,
+    }
+}
+
+// Is the element at `row` a good list, map or array with children. Scalars, most elements, are told by their kind at once.
+fn is_nested(words: &[u64], row: usize, levels: usize, spot: IsArrayElement) -> bool
+    requires { ⌜ 2 * row ≤ length (now words) ⌝ }
+    ensures { λ r. ⌜ Nested levels (spotIs spot) (drop (2 * row) (now (words .entry))) (getD (now (words .entry)) (2 * row) 0) (getD (now (words .entry)) (2 * row + 1) 0) r ⌝ }
+{
+    let k = 2 * row;
+    if levels == 0 {
+        return false;
+    }
+    if words.len() - k < 2 {
+        return false;
+    }
+    let kind = words[k];
+    if kind < 0xd0 {
+        return false;
+    }
+    if !is_like(spot, kind) {
+        return false;
+    }
+    if is_array(kind, words[k + 1]) {
+        return true;
+    }
+    is_open(kind, words[k + 1])
 }
 
 // The spot of the row behind another one.
@@ -197,27 +250,6 @@ fn next_spot(spot: IsArrayElement, kind: u64) -> IsArrayElement
     }
 }
 
-// The bytes that an array's elements have in common: their code.
-fn code_width(style: Style, number: u64) -> usize
-    ensures { λ r. ⌜ r ≡ codeWidth (styleIs style) number ⌝ }
-{
-    match style {
-        Style::Foreign => 0,
-        Style::Numbered(_, _) => 0,
-        Style::Blob(_) => 0,
-        Style::Lettered(_) => 0,
-        Style::Listed(_, _) => 0,
-        Style::Mapped(_) => 0,
-        Style::Arrayed(_) => {
-            if number == 0 {
-                return 0;
-            }
-            1
-        }
-        Style::Describing => 0,
-    }
-}
-
 // Stores a mark where there is room for it.
 fn put_mark(marks: &mut [u8], at: usize, width: usize, body: usize)
     requires { ⌜ ((width ≡ 0 → ⊥) → width ≡ 3) × (at + 3 < 2 ^ 64) ⌝ }
@@ -226,112 +258,47 @@ fn put_mark(marks: &mut [u8], at: usize, width: usize, body: usize)
     if width == 0 {
         return;
     }
-    if at + filling::MARK_WIDTH <= marks.len() {
+    if at + head::MARK_WIDTH <= marks.len() {
         put::put_three(marks, at, body as u64);
     }
 }
 
-// So many elements of an array, the first of them at `start`.
-fn size_items(words: &[u64], text: &[u8], count: usize, levels: usize, start: Extent) -> Sized
-    requires { ⌜ Within (now words) (now text) start ⌝ }
-    ensures { λ r. ⌜ r ≡ totalFrom first start (values (now (words .entry)) (now (text .entry)) levels first count (start .row) (start .text)) ⌝ }
-{
-    let mut c = start;
-    let mut place = IsArrayElement::FirstElement;
-    let mut left = count;
-    while 0 < left {
-        match row::check_row(words, text, c.row, c.text, levels, place) {
-            Checked::Bad(number) => {
-                return Sized::Refused(Refusal {
-                    number,
-                    place: c.row,
-                });
-            }
-            Checked::Good(style, kind, number) => {
-                let letters = style.letters(number) as usize;
-                c = c.past(letters, head::item_width(style) + letters);
-                place = next_spot(place, kind);
-                left -= 1;
-            }
-        }
-    }
-    Sized::Fits(c)
-}
-
-// A good row that is not open, with the elements of an array.
-fn size_good(
-    words: &[u64],
-    text: &[u8],
-    levels: usize,
-    marks: &mut [u8],
-    c: Extent,
-    style: Style,
-    kind: u64,
-    number: u64,
-) -> Sized
-    requires { ⌜ Within (now words) (now text) c × (styleIs style ≡ styleOf kind) × (takenOf levels (drop (2 * (c .row)) (now words)) (drop (c .text) (now text)) ≡ other)
-        × (check levels any (c .row) (drop (2 * (c .row)) (now words)) (drop (c .text) (now text)) ≡ got (kind, number)) ⌝ }
-    ensures { λ r. ⌜ Rowed (now (words .entry)) (now (text .entry)) levels c (now (marks .entry)) (now (marks .exit)) r ⌝ }
+// A good row without children.
+fn size_good(c: Extent, style: Style, kind: u64, number: u64) -> Sized
+    requires { ⌜ (styleIs style ≡ styleOf kind) × Small (beyond values c kind number) ⌝ }
+    ensures { λ r. ⌜ r ≡ passed c (got (kind, number)) ⌝ }
 {
     let letters = style.letters(number) as usize;
-    let items = filling::elements_of(style, number) as usize;
-    let width = filling::mark_width(style, number);
-    let next = Extent {
-        row: c.row + 1,
-        text: c.text + letters,
-        size: 0,
-        mark: c.mark + width,
-    };
-    let below = size_items(words, text, items, levels - 1, next);
-    let Sized::Fits(e) = below else {
-        return below;
-    };
-    let body = code_width(style, number) + e.size;
-    put_mark(marks, c.mark, width, body);
-    let size = head::head_width(style, kind, number, body) + letters + body;
-    Sized::Fits(Extent {
-        row: e.row,
-        text: e.text,
-        size: c.size + size,
-        mark: e.mark,
-    })
+    Sized::Fits(c.past(letters, head::head_width(style, kind, number, 0) + letters))
 }
 
-// The row at `c`, whatever it is but an open one.
-fn size_row(words: &[u64], text: &[u8], levels: usize, marks: &mut [u8], c: Extent) -> Sized
+// The row at `c`, whatever it is but one with children.
+fn size_row(words: &[u64], text: &[u8], levels: usize, c: Extent) -> Sized
     requires { ⌜ Within (now words) (now text) c × (takenOf levels (drop (2 * (c .row)) (now words)) (drop (c .text) (now text)) ≡ other) ⌝ }
-    ensures { λ r. ⌜ Rowed (now (words .entry)) (now (text .entry)) levels c (now (marks .entry)) (now (marks .exit)) r ⌝ }
+    ensures { λ r. ⌜ r ≡ passed c (check levels any (c .row) (drop (2 * (c .row)) (now (words .entry))) (drop (c .text) (now (text .entry)))) ⌝ }
 {
     match row::check_row(words, text, c.row, c.text, levels, IsArrayElement::False) {
         Checked::Bad(number) => Sized::Refused(Refusal {
             number,
             place: c.row,
         }),
-        Checked::Good(style, kind, number) => size_good(
-            words,
-            text,
-            levels,
-            marks,
-            c,
-            style,
-            kind,
-            number,
-        ),
+        Checked::Good(style, kind, number) => size_good(c, style, kind, number),
     }
 }
 
-// The width of the mark of an open row, and the bytes before its body.
+// The width of the mark of a row with children.
 fn open_mark(kind: u64) -> usize
     ensures { λ r. ⌜ r ≡ if (eqb kind 0) 0 3 ⌝ }
 {
     if kind == 0x00 {
         return 0;
     }
-    filling::MARK_WIDTH
+    head::MARK_WIDTH
 }
 
+// The bytes before the body of a list, a map or a described value.
 fn open_head(kind: u64, body: usize) -> usize
-    ensures { λ r. ⌜ r ≡ if (eqb kind 0) 1 (if (ltb body shortEnd) 3 9) ⌝ }
+    ensures { λ r. ⌜ r ≡ openHead values kind body ⌝ }
 {
     if kind == 0x00 {
         return 1;
@@ -339,22 +306,123 @@ fn open_head(kind: u64, body: usize) -> usize
     head::compound_width(body)
 }
 
-// Behind the last value of an open row, which is before `e`.
-fn close(marks: &mut [u8], c: Extent, kind: u64, e: Extent) -> Extent
-    requires { ⌜ (c .size + 9 + e .size < 2 ^ 64) × (c .mark + 3 < 2 ^ 64) ⌝ }
-    ensures { λ r. ⌜ (r ≡ closed c kind e) × MarkPut (now (marks .entry)) (c .mark) kind (e .size) (now (marks .exit)) ⌝ }
+// The bytes of the body of a row with children: an array's elements stand behind their code.
+fn body_size(kind: u64, children: usize) -> usize
+    requires { ⌜ children + 1 < 2 ^ 64 ⌝ }
+    ensures { λ r. ⌜ r ≡ bodySize kind children ⌝ }
 {
-    put_mark(marks, c.mark, open_mark(kind), e.size);
+    if kind == 0xf0 {
+        return 1 + children;
+    }
+    children
+}
+
+// Behind a row of that kind, with a body of so many bytes behind a head of so many, whose children end before `e`.
+fn close(marks: &mut [u8], c: Extent, kind: u64, head: usize, body: usize, e: Extent) -> Extent
+    requires { ⌜ (c .size + (head + body) < 2 ^ 64) × (c .mark + 3 < 2 ^ 64) ⌝ }
+    ensures { λ r. ⌜ (r ≡ closed c head body e) × MarkPut (now (marks .entry)) (c .mark) kind body (now (marks .exit)) ⌝ }
+{
+    put_mark(marks, c.mark, open_mark(kind), body);
     Extent {
         row: e.row,
         text: e.text,
-        size: c.size + (open_head(kind, e.size) + e.size),
+        size: c.size + (head + body),
         mark: e.mark,
     }
 }
 
-// So many values, the first of them at `start`, where so many levels are left. For the child rows of each open row sizing calls itself, with a level less; where none
-// is left for them the first is refused at once.
+// The values in a row of that kind at `c`, where so many levels are left for the row. Where none is left for them the first is refused at once.
+fn size_children(
+    words: &[u64],
+    text: &[u8],
+    kind: u64,
+    count: usize,
+    levels: usize,
+    marks: &mut [u8],
+    c: Extent,
+) -> Sized
+    requires { ⌜ Within (now words) (now text) (inside c kind) × (0 < levels) × (0 < count) ⌝ }
+    ensures { λ r. ⌜ Finds (now (words .entry)) (now (text .entry)) (levels - 1) any count (inside c kind) (now (marks .entry)) (now (marks .exit)) r ⌝ }
+{
+    let first = c.inside(kind);
+    if levels == 1 {
+        // named: handed on at once it would make every other answer a copy
+        let none = size_row(words, text, 0, first);
+        return none;
+    }
+    size_values(words, text, count, levels - 1, marks, first)
+}
+
+// The same of the elements of an array.
+fn size_elements(
+    words: &[u64],
+    text: &[u8],
+    count: usize,
+    levels: usize,
+    marks: &mut [u8],
+    c: Extent,
+) -> Sized
+    requires { ⌜ Within (now words) (now text) (inside c 0xf0) × (0 < levels) × (0 < count) ⌝ }
+    ensures { λ r. ⌜ Finds (now (words .entry)) (now (text .entry)) (levels - 1) first count (inside c 0xf0) (now (marks .entry)) (now (marks .exit)) r ⌝ }
+{
+    let first = c.inside(0xf0);
+    if levels == 1 {
+        let none = size_row(words, text, 0, first);
+        return none;
+    }
+    size_items(words, text, count, levels - 1, marks, first)
+}
+
+// So many elements of an array, the first of them at `start`, where so many levels are left.
+fn size_items(
+    words: &[u64],
+    text: &[u8],
+    count: usize,
+    levels: usize,
+    marks: &mut [u8],
+    start: Extent,
+) -> Sized
+    requires { ⌜ Within (now words) (now text) start ⌝ }
+    ensures { λ r. ⌜ Finds (now (words .entry)) (now (text .entry)) levels first count start (now (marks .entry)) (now (marks .exit)) r ⌝ }
+{
+    let mut c = start;
+    let mut spot = IsArrayElement::FirstElement;
+    let mut left = count;
+    while 0 < left {
+        left -= 1;
+        if is_nested(words, c.row, levels, spot) {
+            let kind = words[2 * c.row];
+            let number = words[2 * c.row + 1] as usize;
+            let below = if kind == 0xf0 {
+                size_elements(words, text, number, levels, marks, c)
+            } else {
+                size_children(words, text, kind, number, levels, marks, c)
+            };
+            let Sized::Fits(e) = below else {
+                return below;
+            };
+            c = close(marks, c, kind, head::ITEM_WIDTH, body_size(kind, e.size), e);
+            spot = next_spot(spot, kind);
+        } else {
+            match row::check_row(words, text, c.row, c.text, levels, spot) {
+                Checked::Bad(number) => {
+                    return Sized::Refused(Refusal {
+                        number,
+                        place: c.row,
+                    });
+                }
+                Checked::Good(style, kind, number) => {
+                    let letters = style.letters(number) as usize;
+                    c = c.past(letters, head::item_width(style) + letters);
+                    spot = next_spot(spot, kind);
+                }
+            }
+        }
+    }
+    Sized::Fits(c)
+}
+
+// So many values, the first of them at `start`, where so many levels are left.
 pub(crate) fn size_values(
     words: &[u64],
     text: &[u8],
@@ -364,8 +432,7 @@ pub(crate) fn size_values(
     start: Extent,
 ) -> Sized
     requires { ⌜ Within (now words) (now text) start ⌝ }
-    ensures { λ r. ⌜ (r ≡ totalFrom any start (values (now (words .entry)) (now (text .entry)) levels any count (start .row) (start .text)))
-        × Marked (now (marks .entry)) (start .mark) (now (marks .exit)) (values (now (words .entry)) (now (text .entry)) levels any count (start .row) (start .text)) ⌝ }
+    ensures { λ r. ⌜ Finds (now (words .entry)) (now (text .entry)) levels any count start (now (marks .entry)) (now (marks .exit)) r ⌝ }
 {
     let mut c = start;
     let mut left = count;
@@ -375,22 +442,24 @@ pub(crate) fn size_values(
             Taken::Number(size) => c = c.past(0, size),
             Taken::Letters(letters, size) => c = c.past(letters, size),
             Taken::Open(kind, children) => {
-                let first = c.inside(kind);
-                if levels == 1 {
-                    // named: handed on at once it would make every other answer a copy
-                    let none = size_row(words, text, 0, marks, first);
-                    return none;
-                }
-                let below = size_values(words, text, children, levels - 1, marks, first);
+                let below = size_children(words, text, kind, children, levels, marks, c);
                 let Sized::Fits(e) = below else {
                     return below;
                 };
-                c = close(marks, c, kind, e);
+                c = close(marks, c, kind, open_head(kind, e.size), e.size, e);
+            }
+            Taken::Array(elements) => {
+                let below = size_elements(words, text, elements, levels, marks, c);
+                let Sized::Fits(e) = below else {
+                    return below;
+                };
+                let body = 1 + e.size;
+                c = close(marks, c, 0xf0, head::compound_width(body), body, e);
             }
             Taken::Other => {
                 // a copy is lent, so that `c` stays in registers
                 let here = c;
-                let one = size_row(words, text, levels, marks, here);
+                let one = size_row(words, text, levels, here);
                 let Sized::Fits(e) = one else {
                     return one;
                 };

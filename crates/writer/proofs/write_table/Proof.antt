@@ -10,6 +10,6 @@ write-table-spec =
     (tie.spec
     (λ c κs. c .before .before .before .before .before .pre)
     (λ c. search needs)
-    (λ c κs. fillable _ _ _ _ _ _ (c .before .before .before .before .before .before .before .before .before .pre .1) (c .before .before .before .before .before .before .before .before .before .pre .0) _ (c .before .before .before .put-marks .ensures))
+    (λ c κs. (c .before .before .before .before .before .before .before .before .before .pre .1 .tree, fillable _ _ _ _ _ _ (c .before .before .before .before .before .before .before .before .before .pre .1) (c .before .before .before .before .before .before .before .before .before .pre .0) _ (c .before .before .before .put-marks .ensures)))
     (λ c. search needs)
     (λ c. all-bytes _ _ _ _ _ _ (c .before .before .before .before .before .before .before .before .before .before .before .before .pre .1) (c .before .before .before .before .before .before .before .before .before .before .before .before .pre .0) _ (c .before .before .before .before .before .before .put-marks .ensures) _ (c .before .before .fill .ensures)))

@@ -9,7 +9,7 @@ use Rattle.standard.specs.Choose.{lookup}
 use Rattle.standard.specs.Kinds.{kinds, styleOf}
 use Rattle.writer.specs.Heads.{head}
 use Rattle.writer.specs.Marks.{markWidth}
-use Rattle.writer.specs.Filling.{compoundHead}
+use Rattle.writer.specs.Direct.{compoundHead}
 use Rattle.writer.proofs.Direct.{no-compound}
 use Rattle.writer.proofs.filling.put_compound.Statement.{statement}
 use Rattle.writer.proofs.filling.put_compound.Tie as tie

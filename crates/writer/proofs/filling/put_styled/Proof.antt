@@ -1,31 +1,24 @@
--- `put_styled` writes a row's head, its text and the code of its elements, one behind the other, which are the row's bytes.
-use borrow.Author.Needs.{needs}
+-- `put_styled` writes head and text of a row, one behind the other, which are the row's bytes.
+use Rattle.standard.specs.InCode.{styleIs}
+use Rattle.writer.specs.Heads.{headIs, values}
+use Rattle.writer.proofs.Cursors.{Parts}
 use Prim.Native.Nat.{_+_}
 use mathlib.Core.Path.{refl}
 use native.Mathlib.Omega.{arith}
-use Rattle.standard.specs.InCode.{styleIs}
-use Rattle.writer.specs.Heads.{headIs}
 use Rattle.writer.proofs.Stores.{length-head}
-use Rattle.writer.proofs.Rows.{Row, mark-room, value-row, stepped}
+use Rattle.writer.proofs.Cursors.{mark-room, parts, parts-put, part-sums}
+use borrow.Author.Needs.{needs}
 use Rattle.writer.proofs.filling.put_styled.Statement.{statement}
 use Rattle.writer.proofs.filling.put_styled.Tie as tie
 
 -- the row, once its head is known
 here : (c : tie.After-head-of) →
-    let a = c .before .before .before .before .before .before .before .before .before .before .before .before .before .args in
-    let h = c .head-of .result in
-    let e = c .before .before .before .elements-of .result in
-    Row (a .words .now) (a .text .now) (a .out .now) (a .n) (a .c) (headIs h) (1 + h .width + h .«count_width») (c .before .before .before .before .before .letters .result) e (c .before .before .before .before .mark-width .result) e
+    let a = c .before .before .before .before .before .before .before .before .before .before .before .before .args in
+    Parts values (a .words .now) (a .text .now) (a .out .now) (a .c) (headIs (c .head-of .result)) (1 + c .head-of .result .width + c .head-of .result .«count_width») (c .before .before .before .before .letters .result) (c .before .before .before .mark-width .result)
 here c =
-    let s = c .before .before .before .before .before .before .before .before .before .before .before .before .before in
-    let a = s .args in
+    let s = c .before .before .before .before .before .before .before .before .before .before .before .before in
     let h = c .head-of .result in
-    let y = c .before .before .before .before .before .before .style-of in
-    let l = c .before .before .before .before .before .letters in
-    let w = c .before .before .before .before .mark-width in
-    let e = c .before .before .before .elements-of in
-    let m = c .before .mark-at in
-    value-row (a .words .now) (a .text .now) (a .out .now) (a .n) (a .c) (s .pre .1) (s .good .1 .0 .0, s .good .1 .1 .0 .0) (styleIs (y .result)) (y .ensures) (l .result) (l .ensures) (w .result) (s .pre .0) (e .result) (m .result) (1 + h .width + h .«count_width») (headIs h) (w .ensures) (e .ensures) (m .ensures .0) (c .head-of .ensures) (length-head h)
+    parts values (s .args .words .now) (s .args .text .now) (s .args .out .now) (s .args .c) (s .pre) (styleIs (c .before .before .before .before .before .style-of .result)) (c .before .before .before .before .before .style-of .ensures) (c .before .before .before .mark-width .result) (c .before .before .before .mark-width .ensures) (c .before .before .before .before .letters .result) (c .before .before .before .before .letters .ensures) (c .before .mark-at .result) (1 + h .width + h .«count_width») (headIs h) (c .before .mark-at .ensures .0) (c .head-of .ensures) (length-head h)
 
 pub put-styled-spec : {M : Type 1} → statement M
 put-styled-spec =
@@ -40,19 +33,14 @@ put-styled-spec =
     (λ c κs. search needs)
     (λ c κs. search needs)
     (λ c κs. search needs)
-    (λ c κs. search needs)
-    (λ c κs. mark-room _ _ _ _ _ (c .before .before .before .before .before .before .before .before .before .before .before .pre .1) (c .before .before .before .before .before .before .before .before .before .before .before .pre .0) _ (c .before .before .before .before .style-of .ensures) _ (c .before .before .mark-width .ensures))
-    (λ c κs. search needs)
+    (λ c κs. mark-room _ _ _ _ _ (c .before .before .before .before .before .before .before .before .before .before .pre) _ (c .before .before .before .style-of .ensures) _ (c .before .mark-width .ensures))
+    (λ c κs. omega (arith, c .mark-at .ensures .1))
+    (λ c κs. let o = here (c .before) in omega (arith, o .ahead, o .size, o .ready .room))
+    (λ c. let o = here (c .before .before .before .before .before) in omega (arith, o .size, o .ready .room, c .before .before .before .before .before .before .before .before .before .before .before .before .before .before .before .before .before .good .1 .1 .0 .0))
+    (λ c. let o = here (c .before .before .before .before .before .before) in omega (arith, o .size, o .ready .room, c .before .before .before .before .before .before .before .before .before .before .before .before .before .before .before .before .before .before .good .1 .1 .0 .0))
+    (λ c. let o = here (c .before .before .before .before .before .before .before .before) in omega (arith, o .size, o .ready .room, c .before .before .before .before .before .before .before .before .before .before .before .before .before .before .before .before .before .before .before .before .good .1 .1 .0 .0))
+    (λ c κs. let o = here (c .before .before .before .before .before .before .before .before) in (omega (arith, o .size, o .ready .room, c .before .before .before .before .before .before .put-head .kept .0), omega (arith, o .texts, o .ready .texts)))
+    (λ c. let o = here (c .before .before .before .before .before .before .before .before .before .before .before) in omega (arith, o .size, o .ready .room, c .before .before .before .before .before .before .before .before .before .before .before .before .before .before .before .before .before .before .before .before .before .before .before .good .1 .1 .0 .0))
+    (λ c κs. let s = c .before .before .before .before .before .before .before .before .before .before .before .before .before .before .before .before .before .before .before .before .before .before .before in part-sums (here (c .before .before .before .before .before .before .before .before .before .before .before)) (s .good .0 .0) (s .good .1 .0 .0) (s .good .1 .1 .0 .0))
     (λ c. search needs)
-    (λ c κs. omega (arith, here (c .before .before)))
-    (λ c. omega (arith, here (c .before .before .before .before .before)))
-    (λ c. omega (arith, here (c .before .before .before .before .before .before)))
-    (λ c. omega (arith, here (c .before .before .before .before .before .before .before)))
-    (λ c κs. omega (arith, here (c .before .before .before .before .before .before .before .before), c .before .before .before .before .before .put-head .kept .0))
-    (λ c. omega (arith, here (c .before .before .before .before .before .before .before .before .before .before .before)))
-    (λ c κs. omega (arith, here (c .before .before .before .before .before .before .before .before .before .before .before .before), c .before .before .before .before .before .before .before .before .before .put-head .kept .0, c .before .before .before .put-text .kept .0))
-    (λ c. omega (arith, here (c .before .before .before .before .before .before .before .before .before .before .before .before .before .before .before)))
-    (λ c. omega (arith, here (c .before .before .before .before .before .before .before .before .before .before .before .before .before .before .before), c .before .before .put-code .ensures .size))
-    (λ c. omega (arith, here (c .before .before .before .before .before .before .before .before .before .before .before .before .before .before .before)))
-    (λ c. search needs)
-    (λ c. stepped _ _ _ _ _ _ _ _ _ _ _ (here (c .before .before .before .before .before .before .before .before .before .before .before .before .before .before .before)) (c .before .before .before .before .before .before .before .before .before .before .before .before .put-head .last .0) (c .before .before .before .before .before .before .put-text .last .0) (c .before .before .put-code .last .1 .1 .1 .0) _ _ (c .before .before .before .before .before .before .before .before .before .before .before .before .put-head .ensures) (c .before .before .before .before .before .before .put-text .ensures) (c .before .before .put-code .ensures .stored) (omega arith) refl refl (omega (arith, c .before .before .put-code .ensures .size)) refl refl))
+    (λ c. parts-put (here (c .before .before .before .before .before .before .before .before .before .before .before .before)) _ _ _ _ (c .before .before .before .before .before .before .before .before .before .before .put-head .ensures) (c .before .before .before .put-text .ensures) refl (c .behind .ensures)))

@@ -10,7 +10,7 @@ use Rattle.standard.specs.Encode.{shortEnd}
 use Rattle.laws.specs.Numbers.{length-be}
 use Rattle.writer.specs.Heads.{head}
 use Rattle.writer.proofs.Sizes.{number-small}
-use Rattle.writer.proofs.Turns.{enclosed-width}
+use Rattle.writer.proofs.Bodies.{enclosed-width}
 use Rattle.writer.proofs.head.head_width.Statement.{statement}
 use Rattle.writer.proofs.head.head_width.Tie as tie
 

@@ -7,7 +7,7 @@ use Rattle.standard.specs.Choose.{lookup}
 use Rattle.standard.specs.Kinds.{kinds, styleOf}
 use Rattle.standard.specs.Encode.{shortest}
 use Rattle.writer.specs.Heads.{head}
-use Rattle.writer.specs.Filling.{numberHead}
+use Rattle.writer.specs.Direct.{numberHead}
 use Rattle.writer.proofs.Direct.{coded-long, flag-long, no-number}
 use Rattle.writer.proofs.marking.number_width.Statement.{statement}
 use Rattle.writer.proofs.marking.number_width.Tie as tie

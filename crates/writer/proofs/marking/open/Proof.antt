@@ -3,8 +3,9 @@ use borrow.Author.Needs.{needs}
 use Prim.Native.Nat.{_-_}
 use mathlib.Core.Path.{refl}
 use native.Mathlib.Omega.{arith}
-use lib.ListN.{length-set}
-use Rattle.writer.proofs.Onward.{three-sets}
+use lib.Dec.{eqb}
+use Rattle.writer.specs.Marking.{due}
+use Rattle.writer.proofs.Onward.{three-sets, bit}
 use Rattle.writer.proofs.marking.open.Statement.{statement}
 use Rattle.writer.proofs.marking.open.Tie as tie
 
@@ -16,13 +17,17 @@ open-spec =
     (λ c. search needs)
     (λ c. search needs)
     (λ c. search needs)
-    (λ c. simp length-set (omega (arith, c .pre .0)))
-    (λ c. search needs)
-    (λ c. search needs)
-    (λ c. search needs)
-    (λ c. simp length-set (omega (arith, c .before .pre .0)))
     (λ c. search needs)
     (λ c. search needs)
     (λ c. search needs)
     (λ c. search needs)
-    (λ c. (refl, three-sets (c .before .before .before .args .stack .now) (c .before .before .before .args .c .top) (c .before .before .before .args .c .size) (c .before .before .before .args .c .mark) (c .before .before .before .args .c .left - 1))))
+    (λ c. omega (arith, bit (c .before .before .args .c .elements)))
+    (λ c. search needs)
+    (λ c. search needs)
+    (λ c. search needs)
+    (λ c. search needs)
+    (λ c. search needs)
+    (λ c. omega (arith, bit (eqb (c .before .before .before .before .args .kind) 0xf0)))
+    (λ c. search needs)
+    (λ c. search needs)
+    (λ c. let a = c .before .before .before .before .before .args in (refl, three-sets (a .stack .now) (a .c .top) (a .c .size) (a .c .mark) (due (a .c .left - 1) (a .c .elements)))))

@@ -1,7 +1,8 @@
 -- `take_row` goes on behind a row, whatever it is.
 use borrow.Author.Needs.{needs}
+use mathlib.Core.Path.{sym, _∙_}
 use native.Mathlib.Omega.{arith}
-use Rattle.writer.proofs.Onward.{now, number-lone, described-lone, lone-asks, lone-onward, box-asks, box-onward, array-asks, array-onward, rest-lone}
+use Rattle.writer.proofs.Onward.{item-bare, number-bare, pair-bare, other-bare, past-asks, past-taken}
 use Rattle.writer.proofs.marking.take_row.Statement.{statement}
 use Rattle.writer.proofs.marking.take_row.Tie as tie
 
@@ -9,28 +10,26 @@ pub take-row-spec : {M : Type 1} → statement M
 take-row-spec =
     tie.close
     (tie.spec
-    (λ c. omega (arith, now _ _ _ _ (c .before .before .before .before .pre .0) (c .before .before .before .before .pre .1) .here, c .before .before .before .before .good .0 .1))
-    (λ c. omega (arith, now _ _ _ _ (c .before .before .before .before .pre .0) (c .before .before .before .before .pre .1) .here, c .before .before .before .before .good .0 .1))
-    (λ c. omega (arith, now _ _ _ _ (c .before .before .before .before .before .pre .0) (c .before .before .before .before .before .pre .1) .here))
-    (λ c. omega (arith, now _ _ _ _ (c .before .before .before .before .before .pre .0) (c .before .before .before .before .before .pre .1) .here, c .before .before .before .before .before .good .0 .1))
-    (λ c. omega (arith, now _ _ _ _ (c .before .before .before .before .before .pre .0) (c .before .before .before .before .before .pre .1) .here, c .before .before .before .before .before .good .0 .1))
-    (λ c. omega (arith, now _ _ _ _ (c .before .before .before .before .before .before .pre .0) (c .before .before .before .before .before .before .pre .1) .here))
-    (λ c κs. search needs)
-    (λ c κs. box-asks _ _ _ _ (c .before .before .before .before .before .before .before .before .before .pre .0) (c .before .before .before .before .before .before .before .before .before .pre .1) _ (c .before .before .is-boxed .ensures) (c .before .if1 .taken) (c .before .before .before .before .before .before .before .before .before .good .0 .1) (c .before .before .before .before .before .before .before .before .before .good .1 .1 .0 .0))
     (λ c. search needs)
-    (λ c. box-onward _ _ _ _ (c .before .before .before .before .before .before .before .before .before .before .before .before .pre .0) (c .before .before .before .before .before .before .before .before .before .before .before .before .pre .1) _ (c .before .before .before .before .before .is-boxed .ensures) (c .before .before .before .before .if1 .taken) _ _ (c .before .before .«open» .ensures .0) (c .before .before .«open» .ensures .1))
-    (λ c κs. search needs)
-    (λ c κs. lone-asks _ _ _ _ (c .before .before .before .before .before .before .before .before .before .before .pre .0) (c .before .before .before .before .before .before .before .before .before .before .pre .1) (c .before .before .before .before .before .before .before .before .before .before .good .0 .1) _ 0 (omega arith) (number-lone _ _ _ _ (c .before .number-width .ensures) (c .if2 .taken)))
-    (λ c. lone-onward _ _ _ _ (c .before .before .before .before .before .before .before .before .before .before .before .pre .0) (c .before .before .before .before .before .before .before .before .before .before .before .pre .1) _ 0 (number-lone _ _ _ _ (c .before .before .number-width .ensures) (c .before .if2 .taken)) _ (c .past .ensures))
-    (λ c κs. lone-asks _ _ _ _ (c .before .before .before .before .before .before .before .before .before .before .before .pre .0) (c .before .before .before .before .before .before .before .before .before .before .before .pre .1) (c .before .before .before .before .before .before .before .before .before .before .before .good .0 .1) 1 2 (omega arith) (described-lone _ _ (c .if3 .taken) (now _ _ _ _ (c .before .before .before .before .before .before .before .before .before .before .before .pre .0) (c .before .before .before .before .before .before .before .before .before .before .before .pre .1) .row .inRange)))
-    (λ c. lone-onward _ _ _ _ (c .before .before .before .before .before .before .before .before .before .before .before .before .pre .0) (c .before .before .before .before .before .before .before .before .before .before .before .before .pre .1) 1 2 (described-lone _ _ (c .before .if3 .taken) (now _ _ _ _ (c .before .before .before .before .before .before .before .before .before .before .before .before .pre .0) (c .before .before .before .before .before .before .before .before .before .before .before .before .pre .1) .row .inRange)) _ (c .past2 .ensures))
-    (λ c κs. search needs)
-    (λ c κs. search needs)
-    (λ c κs. array-asks _ _ _ _ (c .before .before .before .before .before .before .before .before .before .before .before .before .before .before .before .pre .0) (c .before .before .before .before .before .before .before .before .before .before .before .before .before .before .before .pre .1) _ (c .before .before .before .style-of .ensures) _ (c .before .before .elements-of .ensures) (c .before .if4 .taken) (c .before .before .before .before .before .before .before .before .before .before .before .before .before .before .before .good .0 .1))
     (λ c. search needs)
-    (λ c. array-onward _ _ _ _ (c .before .before .before .before .before .before .before .before .before .before .before .before .before .before .before .before .before .before .pre .0) (c .before .before .before .before .before .before .before .before .before .before .before .before .before .before .before .before .before .before .pre .1) _ (c .before .before .before .before .before .before .style-of .ensures) _ (c .before .before .before .before .before .elements-of .ensures) (c .before .before .before .before .if4 .taken) _ _ (c .before .before .take-array .ensures))
+    (λ c. search needs)
+    (λ c. search needs)
+    (λ c. search needs)
+    (λ c. search needs)
     (λ c κs. search needs)
-    (λ c κs. c .before .before .before .style-of .ensures)
-    (λ c. omega (arith, lone-asks _ _ _ _ (c .before .before .before .before .before .before .before .before .before .before .before .before .before .before .before .before .pre .0) (c .before .before .before .before .before .before .before .before .before .before .before .before .before .before .before .before .pre .1) (c .before .before .before .before .before .before .before .before .before .before .before .before .before .before .before .before .good .0 .1) _ 0 (omega arith) (rest-lone _ _ _ _ (c .before .before .before .before .before .before .before .before .before .before .before .before .before .before .before .before .pre .0) (c .before .before .before .before .before .before .before .before .before .before .before .before .before .before .before .before .pre .1) _ (c .before .before .before .before .style-of .ensures) _ (c .before .before .before .elements-of .ensures) (c .before .before .before .before .before .if3 .left) _ (c .before .before .before .before .before .before .before .before .before .is-boxed .ensures) (c .before .before .before .before .before .before .before .before .if1 .left) (omega (arith, c .before .before .if4 .left)) _ _ (c .head-width .ensures) (c .before .letters .ensures)) .1))
-    (λ c κs. lone-asks _ _ _ _ (c .before .before .before .before .before .before .before .before .before .before .before .before .before .before .before .before .pre .0) (c .before .before .before .before .before .before .before .before .before .before .before .before .before .before .before .before .pre .1) (c .before .before .before .before .before .before .before .before .before .before .before .before .before .before .before .before .good .0 .1) _ 0 (omega arith) (rest-lone _ _ _ _ (c .before .before .before .before .before .before .before .before .before .before .before .before .before .before .before .before .pre .0) (c .before .before .before .before .before .before .before .before .before .before .before .before .before .before .before .before .pre .1) _ (c .before .before .before .before .style-of .ensures) _ (c .before .before .before .elements-of .ensures) (c .before .before .before .before .before .if3 .left) _ (c .before .before .before .before .before .before .before .before .before .is-boxed .ensures) (c .before .before .before .before .before .before .before .before .if1 .left) (omega (arith, c .before .before .if4 .left)) _ _ (c .head-width .ensures) (c .before .letters .ensures)))
-    (λ c. lone-onward _ _ _ _ (c .before .before .before .before .before .before .before .before .before .before .before .before .before .before .before .before .before .pre .0) (c .before .before .before .before .before .before .before .before .before .before .before .before .before .before .before .before .before .pre .1) _ 0 (rest-lone _ _ _ _ (c .before .before .before .before .before .before .before .before .before .before .before .before .before .before .before .before .before .pre .0) (c .before .before .before .before .before .before .before .before .before .before .before .before .before .before .before .before .before .pre .1) _ (c .before .before .before .before .before .style-of .ensures) _ (c .before .before .before .before .elements-of .ensures) (c .before .before .before .before .before .before .if3 .left) _ (c .before .before .before .before .before .before .before .before .before .before .is-boxed .ensures) (c .before .before .before .before .before .before .before .before .before .if1 .left) (omega (arith, c .before .before .before .if4 .left)) _ _ (c .before .head-width .ensures) (c .before .before .letters .ensures)) _ (c .past3 .ensures)))
+    (λ c κs. search needs)
+    (λ c. rw (sym (c .before .before .before .is-boxed .ensures) ∙ c .before .before .if1 .taken) (c .«open» .ensures))
+    (λ c κs. search needs)
+    (λ c κs. let s = c .before .before .before .before .before .before .before .before in past-asks _ _ (s .pre) _ 0 (item-bare _ _ _ _ (c .before .if2 .taken) (s .pre .fits (c .before .if2 .taken)) (c .item-size .ensures)) (omega arith))
+    (λ c. let s = c .before .before .before .before .before .before .before .before .before in past-taken _ _ (s .pre) _ 0 (item-bare _ _ _ _ (c .before .before .if2 .taken) (s .pre .fits (c .before .before .if2 .taken)) (c .before .item-size .ensures)) _ _ (c .before .before .before .before .is-boxed .ensures) (c .before .before .before .if1 .left) _ (c .past .ensures))
+    (λ c κs. search needs)
+    (λ c κs. let s = c .before .before .before .before .before .before .before .before .before in past-asks _ _ (s .pre) _ 0 (number-bare _ _ _ _ (c .before .before .if2 .left) (c .before .number-width .ensures) (c .if3 .taken)) (omega arith))
+    (λ c. let s = c .before .before .before .before .before .before .before .before .before .before in past-taken _ _ (s .pre) _ 0 (number-bare _ _ _ _ (c .before .before .before .if2 .left) (c .before .before .number-width .ensures) (c .before .if3 .taken)) _ _ (c .before .before .before .before .before .is-boxed .ensures) (c .before .before .before .before .if1 .left) _ (c .past2 .ensures))
+    (λ c κs. search needs)
+    (λ c. let s = c .before .before .before .before .before .before .before .before .before .before .before in past-taken _ _ (s .pre) _ 2 (pair-bare _ _ _ (c .before .before .before .before .if2 .left) (c .before .if4 .taken)) _ _ (c .before .before .before .before .before .before .is-boxed .ensures) (c .before .before .before .before .before .if1 .left) _ (c .past3 .ensures))
+    (λ c κs. search needs)
+    (λ c κs. search needs)
+    (λ c κs. search needs)
+    (λ c. let s = c .before .before .before .before .before .before .before .before .before .before .before .before .before in omega (arith, past-asks _ _ (s .pre) _ 0 (other-bare _ _ _ _ _ _ (c .before .before .before .before .before .before .if2 .left) (c .before .before .before .if4 .left) (c .before .before .style-of .ensures) (c .head-width .ensures) (c .before .letters .ensures)) (omega arith) .1))
+    (λ c κs. let s = c .before .before .before .before .before .before .before .before .before .before .before .before .before in past-asks _ _ (s .pre) _ 0 (other-bare _ _ _ _ _ _ (c .before .before .before .before .before .before .if2 .left) (c .before .before .before .if4 .left) (c .before .before .style-of .ensures) (c .head-width .ensures) (c .before .letters .ensures)) (omega arith))
+    (λ c. let s = c .before .before .before .before .before .before .before .before .before .before .before .before .before .before in past-taken _ _ (s .pre) _ 0 (other-bare _ _ _ _ _ _ (c .before .before .before .before .before .before .before .if2 .left) (c .before .before .before .before .if4 .left) (c .before .before .before .style-of .ensures) (c .before .head-width .ensures) (c .before .before .letters .ensures)) _ _ (c .before .before .before .before .before .before .before .before .before .is-boxed .ensures) (c .before .before .before .before .before .before .before .before .if1 .left) _ (c .past4 .ensures)))

@@ -1,7 +1,7 @@
 -- `put_lettered` takes the shorter of two forms.
 use borrow.Author.Needs.{needs}
 use borrow.Author.Tests.{lt-ltb, le-ltb}
-use Rattle.writer.specs.Filling.{spelled}
+use Rattle.writer.specs.Direct.{spelled}
 use Rattle.writer.proofs.put.put_lettered.Statement.{statement}
 use Rattle.writer.proofs.put.put_lettered.Tie as tie
 

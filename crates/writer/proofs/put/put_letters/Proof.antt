@@ -7,7 +7,7 @@ use Rattle.standard.specs.Choose.{lookup}
 use Rattle.standard.specs.Kinds.{kinds, styleOf}
 use Rattle.standard.specs.Table.{letters}
 use Rattle.writer.specs.Heads.{head}
-use Rattle.writer.specs.Filling.{spelled, lettersRow}
+use Rattle.writer.specs.Direct.{spelled, lettersRow}
 use Rattle.writer.proofs.Direct.{no-letters}
 use Rattle.writer.proofs.put.put_letters.Statement.{statement}
 use Rattle.writer.proofs.put.put_letters.Tie as tie

@@ -6,7 +6,7 @@ use Rattle.standard.specs.Choose.{lookup}
 use Rattle.standard.specs.Kinds.{kinds, styleOf}
 use Rattle.standard.specs.Encode.{shortest}
 use Rattle.writer.specs.Heads.{head}
-use Rattle.writer.specs.Filling.{numberHead}
+use Rattle.writer.specs.Direct.{numberHead}
 use Rattle.writer.proofs.Direct.{flag-long, unsigned-long, no-number}
 use Rattle.writer.proofs.put.put_number.Statement.{statement}
 use Rattle.writer.proofs.put.put_number.Tie as tie

@@ -2,7 +2,7 @@
 use mathlib.Core.Path.{refl, sym}
 use Rattle.standard.specs.Choose.{lookup}
 use Rattle.standard.specs.Kinds.{kinds, styleOf}
-use Rattle.writer.specs.Filling.{isLettered}
+use Rattle.writer.specs.Direct.{isLettered}
 use Rattle.writer.proofs.Tabled.{other}
 use Rattle.writer.proofs.sizing.is_lettered.Statement.{statement}
 use Rattle.writer.proofs.sizing.is_lettered.Tie as tie

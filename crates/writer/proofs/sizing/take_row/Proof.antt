@@ -1,12 +1,13 @@
 -- A row is read where a level and two words are left.
 use Prim.Native.Nat.{_+_, _*_, _<_}
-use mathlib.Core.Path.{_≡_}
+use mathlib.Core.Path.{_≡_, refl}
 use mathlib.Core.List.{_∷_}
 use borrow.Author.Needs.{needs}
 use native.Mathlib.Omega.{arith}
+use borrow.Author.Tests.{lt-ltb, le-ltb}
 use lib.ListN.{drop, getD, length-drop}
 use Rattle.writer.proofs.Checks.{row-words}
-use Rattle.writer.proofs.Turns.{taken-deep, taken-missing, taken-plain, taken-open, taken-number, taken-letters, taken-other}
+use Rattle.writer.proofs.Turns.{taken-deep, taken-missing, taken-is, taken-plain}
 use Rattle.writer.proofs.sizing.take_row.Statement.{statement}
 use Rattle.writer.proofs.sizing.take_row.Tie as tie
 
@@ -37,9 +38,11 @@ take-row-spec =
     (λ c κs. search needs)
     (λ c. rw (words (c .before .before)) (taken-plain _ _ _ _ _ (level (c .before .before)) _ (c .before .plain-size .ensures (c .if3 .taken)) (c .if3 .taken)))
     (λ c κs. search needs)
-    (λ c. rw (words (c .before .before .before .before)) (taken-open _ _ _ _ _ (level (c .before .before .before .before)) _ (c .before .is-open .ensures) (c .if4 .taken)))
+    (λ c. rw (words (c .before .before .before .before)) (taken-is _ _ _ _ _ (level (c .before .before .before .before)) _ (c .before .is-open .ensures) _ refl _ refl _ refl _ (rw (c .if4 .taken))))
     (λ c κs. search needs)
-    (λ c. rw (words (c .before .before .before .before .before .before)) (taken-number _ _ _ _ _ (level (c .before .before .before .before .before .before)) _ (c .before .before .before .is-open .ensures) (c .before .before .if4 .left) _ (c .before .size-number .ensures) (c .if5 .taken)))
+    (λ c. rw (words (c .before .before .before .before .before .before)) (taken-is _ _ _ _ _ (level (c .before .before .before .before .before .before)) _ (c .before .before .before .is-open .ensures) _ (c .before .size-number .ensures) _ refl _ refl _ (rw (c .before .before .if4 .left, lt-ltb _ _ (c .if5 .taken)))))
     (λ c κs. c .before .before .before .before .before .before .before .before .before .before .before .before .pre .1)
-    (λ c. rw (words (c .before .before .before .before .before .before .before .before)) (taken-letters _ _ _ _ _ (level (c .before .before .before .before .before .before .before .before)) _ (c .before .before .before .before .before .is-open .ensures) (c .before .before .before .before .if4 .left) _ (c .before .before .before .size-number .ensures) (c .before .before .if5 .left) _ (c .before .size-letters .ensures) (c .if6 .taken)))
-    (λ c. rw (words (c .before .before .before .before .before .before .before .before)) (taken-other _ _ _ _ _ (level (c .before .before .before .before .before .before .before .before)) _ (c .before .before .before .before .before .is-open .ensures) (c .before .before .before .before .if4 .left) _ (c .before .before .before .size-number .ensures) (c .before .before .if5 .left) _ (c .before .size-letters .ensures) (c .if6 .left))))
+    (λ c. rw (words (c .before .before .before .before .before .before .before .before)) (taken-is _ _ _ _ _ (level (c .before .before .before .before .before .before .before .before)) _ (c .before .before .before .before .before .is-open .ensures) _ (c .before .before .before .size-number .ensures) _ (c .before .size-letters .ensures) _ refl _ (rw (c .before .before .before .before .if4 .left, le-ltb _ _ (c .before .before .if5 .left), lt-ltb _ _ (c .if6 .taken)))))
+    (λ c κs. search needs)
+    (λ c. rw (words (c .before .before .before .before .before .before .before .before .before .before)) (taken-is _ _ _ _ _ (level (c .before .before .before .before .before .before .before .before .before .before)) _ (c .before .before .before .before .before .before .before .is-open .ensures) _ (c .before .before .before .before .before .size-number .ensures) _ (c .before .before .before .size-letters .ensures) _ (c .before .is-array .ensures) _ (rw (c .before .before .before .before .before .before .if4 .left, le-ltb _ _ (c .before .before .before .before .if5 .left), le-ltb _ _ (c .before .before .if6 .left), c .if7 .taken))))
+    (λ c. rw (words (c .before .before .before .before .before .before .before .before .before .before)) (taken-is _ _ _ _ _ (level (c .before .before .before .before .before .before .before .before .before .before)) _ (c .before .before .before .before .before .before .before .is-open .ensures) _ (c .before .before .before .before .before .size-number .ensures) _ (c .before .before .before .size-letters .ensures) _ (c .before .is-array .ensures) _ (rw (c .before .before .before .before .before .before .if4 .left, le-ltb _ _ (c .before .before .before .before .if5 .left), le-ltb _ _ (c .before .before .if6 .left), c .if7 .left)))))

@@ -1,12 +1,12 @@
--- `is_plain` says which styles an array may hold.
+-- `is_member` says which styles an array may hold.
 use borrow.Author.Needs.{needs}
-use Rattle.standard.specs.Kinds.{plain}
-use Rattle.standard.proofs.kind.Style.is_plain.Statement.{statement}
-use Rattle.standard.proofs.kind.Style.is_plain.Tie as tie
+use Rattle.standard.specs.Kinds.{member}
+use Rattle.standard.proofs.kind.Style.is_member.Statement.{statement}
+use Rattle.standard.proofs.kind.Style.is_member.Tie as tie
 
-pub is-plain-spec : {M : Type 1} → statement M
-unfolding plain
-is-plain-spec =
+pub is-member-spec : {M : Type 1} → statement M
+unfolding member
+is-member-spec =
     tie.close
     (tie.spec
     (λ c. search needs)
