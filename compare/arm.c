@@ -55,11 +55,13 @@ static void scalar(uint64_t kind) {
     }
 }
 
-static void value(int level) {
-    static const uint64_t kinds[] = {0x40, 0x50, 0x51, 0x56, 0x60, 0x61, 0x70, 0x71, 0x72, 0x73, 0x74, 0x80, 0x81, 0x82,
-                                     0x83, 0x84, 0x94, 0x98, 0xa0, 0xb0, 0xb1, 0xb3, 0x00, 0xd0, 0xd1, 0xf0, 0x99};
-    enum { SCALARS = 22, KINDS = 26 };
-    uint64_t kind = kinds[below(below(30) ? KINDS : KINDS + 1)], count = below(below(5) ? 3 : 30), same = kinds[below(SCALARS)];
+static const uint64_t kinds[] = {0x40, 0x50, 0x51, 0x56, 0x60, 0x61, 0x70, 0x71, 0x72, 0x73, 0x74, 0x80, 0x81, 0x82,
+                                 0x83, 0x84, 0x94, 0x98, 0xa0, 0xb0, 0xb1, 0xb3, 0xd0, 0xd1, 0xf0, 0x00, 0x99};
+enum { SCALARS = 22, ELEMENTS = 25, KINDS = 26 };
+
+/* The elements of an array are of one kind, lists, maps and arrays too. */
+static void value(uint64_t kind, int level) {
+    uint64_t count = below(below(5) ? 3 : 30), same = kinds[below(3) ? below(SCALARS) : SCALARS + below(ELEMENTS - SCALARS)];
     switch (kind) {
     case 0x00: count = 2; break;
     case 0xd1: count *= 2; break;
@@ -67,17 +69,15 @@ static void value(int level) {
     default: scalar(kind); return;
     }
     row(kind, count);
-    for (uint64_t i = 0; i < count; i++) {
-        if (kind == 0xf0) scalar(same);
-        else if (level < 34) value(level + 1);
-    }
+    for (uint64_t i = 0; i < count && level < 34 && word_count < WORDS; i++)
+        value(kind == 0xf0 ? same : kinds[below(below(30) ? KINDS : KINDS + 1)], level + 1);
 }
 
-/* Lists and maps, one in the other, to level 34. */
+/* Lists, arrays and maps, one in the other, to level 34. */
 static void chain(void) {
     for (uint64_t left = 1 + below(34); left > 0; left--) {
-        if (below(5)) row(0xd0, 1);
-        else row(0xd1, 1 + below(2));
+        uint64_t which = below(10);
+        row(which < 5 ? 0xd0 : which < 9 ? 0xf0 : 0xd1, which < 9 ? 1 : 1 + below(2));
     }
     row(0x70, number());
 }
@@ -97,7 +97,7 @@ int main(int argc, char **argv) {
     for (uint64_t i = 0; i < count; i++) {
         uint64_t n[4] = {0}, at = 0;
         word_count = text_length = 0;
-        if (below(50)) value(1);
+        if (below(50)) value(kinds[below(below(30) ? KINDS : KINDS + 1)], 1);
         else chain();
         if (!below(40)) word_count -= 1;
 

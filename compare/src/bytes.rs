@@ -1,11 +1,15 @@
-//! Reading whatever bytes: measuring, reading and the walker agree, appended bytes change nothing but a 9, at most one front is
-//! accepted, and nothing is touched that should not be.
+//! Reading whatever bytes: we answer what the judge's own reader answers; measuring, reading and the walker agree, appended bytes change
+//! nothing but a 9, at most one front is accepted, and nothing is touched that should not be. A table in any form that the format allows
+//! is read to that table.
 
 use crate::{
     damage::Damage,
     findings::Findings,
+    forms::{self, AnyForm},
+    generate::Generator,
     ours::{self, Told, PATTERN, PATTERN_WORD},
-    report,
+    random::Random,
+    reader, report,
     table::{hex, Table},
 };
 
@@ -17,8 +21,12 @@ pub struct Plan {
 pub fn run(plan: &Plan) -> Findings {
     report::heading("Reading whatever bytes");
     let mut judge = Judge::new(plan.seed);
-    for _ in 0..plan.runs {
+    let (mut tables, mut forms) = (Generator::all(plan.seed), AnyForm(Random::new(plan.seed)));
+    for i in 0..plan.runs {
         judge.next();
+        if i % FORMS == 0 {
+            judge.any_form(tables.table(), &mut forms);
+        }
     }
     judge.print(plan);
     judge.findings.print();
@@ -29,6 +37,8 @@ pub fn run(plan: &Plan) -> Findings {
 const BEYOND: usize = 3;
 /// Of a longer value not every front is tried.
 const FRONTS: usize = 64;
+/// For so many runs of bytes there is one table in any form.
+const FORMS: u64 = 5;
 
 struct Judge {
     damage: Damage,
@@ -38,6 +48,7 @@ struct Judge {
     appended: u64,
     changed: u64,
     walked: u64,
+    forms: u64,
     words: Vec<u64>,
     text: Vec<u8>,
     longer: Vec<u8>,
@@ -55,6 +66,7 @@ impl Judge {
             appended: 0,
             changed: 0,
             walked: 0,
+            forms: 0,
             words: Vec::new(),
             text: Vec::new(),
             longer: Vec::new(),
@@ -68,6 +80,7 @@ impl Judge {
         self.numbers[(told.number as usize).min(15)] += 1;
         let possible = matches!(told.number, 0 | 3 | 4 | 9..=12);
         self.hold("measuring is fair", told.is_fair() && possible && told.length <= bytes.len() as u64, &bytes, &told);
+        self.own(&bytes, &told);
         self.read(&bytes, &told);
         self.append(&bytes, &told);
         self.step(&bytes, &told);
@@ -78,10 +91,31 @@ impl Judge {
         self.walk(&bytes);
     }
 
+    /// A table in forms chosen at random, one-byte and four-byte ones in arrays too, is read to that table.
+    fn any_form(&mut self, table: &Table, forms: &mut AnyForm) {
+        self.forms += 1;
+        let mut bytes = Vec::new();
+        forms::write(table, forms, &mut bytes);
+        let (told, back) = ours::read_whole(&bytes);
+        let due = Told::success(bytes.len(), table.rows(), table.text.len());
+        self.hold("a table in any form is read to that table", told == due && back == *table, &bytes, &told);
+    }
+
     fn hold(&mut self, what: &str, holds: bool, bytes: &[u8], told: &Told) {
         if !holds {
             self.findings.note(what, bytes.len(), || format!("`{}`: {told}", hex(bytes)));
         }
+    }
+
+    /// The judge's own reader gives the same answer, and the same table.
+    fn own(&mut self, bytes: &[u8], told: &Told) {
+        let same = match reader::read(bytes) {
+            Ok((table, length)) => {
+                *told == Told::success(length, table.rows(), table.text.len()) && ours::read_whole(bytes).1 == table
+            }
+            Err(refusal) => *told == refusal,
+        };
+        self.hold("the judge's own reader agrees", same, bytes, told);
     }
 
     /// Lends so many words and bytes of text, all of them the pattern, and reads.
@@ -220,6 +254,7 @@ impl Judge {
                 of("runs with bytes appended", self.appended),
                 of("of these with another answer, all of them a 9 before", self.changed),
                 of("steps of walks through runs end to end", self.walked),
+                of("tables in forms chosen at random, read to the same tables", self.forms),
             ],
         );
     }

@@ -1,6 +1,13 @@
 //! Random, damaged and truncated bytes.
 
-use crate::{generate::Generator, ours, random::Random, table::Table};
+use crate::{
+    domain::LEVELS,
+    forms::{self, AnyForm},
+    generate::Generator,
+    ours,
+    random::Random,
+    table::Table,
+};
 
 /// All 40 format codes, and a few bytes that are none.
 const CODES: [u8; 46] = [
@@ -12,13 +19,20 @@ const CODES: [u8; 46] = [
 pub struct Damage {
     random: Random,
     tables: Generator,
+    forms: AnyForm,
     bytes: Vec<u8>,
     spare: Vec<u8>,
 }
 
 impl Damage {
     pub fn new(seed: u64) -> Self {
-        Damage { random: Random::new(!seed), tables: Generator::all(seed), bytes: Vec::new(), spare: Vec::new() }
+        Damage {
+            random: Random::new(!seed),
+            tables: Generator::all(seed),
+            forms: AnyForm(Random::new(seed ^ 0xf0)),
+            bytes: Vec::new(),
+            spare: Vec::new(),
+        }
     }
 
     pub fn random(&mut self) -> &mut Random {
@@ -27,11 +41,12 @@ impl Damage {
 
     /// The next run of bytes: sometimes good, mostly not.
     pub fn bytes(&mut self) -> &[u8] {
-        match self.random.below(10) {
-            0 => self.noise(),
-            1 | 2 => self.codes(),
-            3 => self.written(),
-            4 => {
+        match self.random.below(40) {
+            0..=3 => self.noise(),
+            4..=10 => self.codes(),
+            11 => self.deep(),
+            12..=15 => self.written(),
+            16..=19 => {
                 self.written();
                 let length = self.random.below(self.bytes.len());
                 self.bytes.truncate(length);
@@ -65,7 +80,40 @@ impl Damage {
         }
     }
 
-    /// A table's bytes, as we write them; long ones are left out, since there are enough of them elsewhere.
+    /// Lists, arrays and described values, one in the other, to about the last level or beyond it. An array of one element has the bytes of a
+    /// list of one value, but for its code.
+    fn deep(&mut self) {
+        let inner: [&[u8]; 8] =
+            [&[0x40], &[0x45], &[0x50, 7], &[0xc0, 1, 0], &[0xe0, 1, 0], &[0xe0, 1, 1], &[0xc1, 1, 2], &[0x46]];
+        let inner = self.random.of(&inner);
+        let wraps =
+            self.random.of(&[&[0xc0][..], &[0xe0], &[0xc0, 0xe0], &[0xd0, 0xe0, 0xe0], &[0xf0, 0xc0], &[0x00, 0xe0, 0xc0]]);
+        let levels = self.random.within(LEVELS as usize - 3, LEVELS as usize + 1);
+        self.bytes.clear();
+        self.bytes.extend_from_slice(inner);
+        for level in 0..levels {
+            let code = wraps[level % wraps.len()];
+            let size = self.bytes.len();
+            self.spare.clear();
+            self.spare.push(code);
+            match code {
+                0x00 => self.spare.push(0x40),
+                0xd0 | 0xf0 => {
+                    self.spare.extend_from_slice(&(size as u32 + 4).to_be_bytes());
+                    self.spare.extend_from_slice(&[0, 0, 0, 1]);
+                }
+                // a size beyond the byte is wrong, which is as good
+                _ => self.spare.extend_from_slice(&[(size + 1) as u8, 1]),
+            }
+            self.spare.append(&mut self.bytes);
+            std::mem::swap(&mut self.bytes, &mut self.spare);
+        }
+        if self.random.once_in(3) {
+            self.hurt();
+        }
+    }
+
+    /// A table's bytes, as we write them or in other forms that we read; long ones are left out, since there are enough of them elsewhere.
     fn written(&mut self) {
         const LONG: u64 = 2_000;
         let table: &Table = loop {
@@ -75,6 +123,9 @@ impl Damage {
             }
         };
         self.bytes.clear();
+        if self.random.once_in(2) {
+            return forms::write(table, &mut self.forms, &mut self.bytes);
+        }
         self.bytes.resize(ours::size(table).length as usize, 0);
         ours::write(table, &mut self.bytes);
     }

@@ -1,5 +1,5 @@
 //! The known differences from the ported crate (docs/DIFFERENCES.md), each with its smallest tables: what the crate does, what
-//! we do, and what Part 1 says. That both do it is checked, and that the document states it.
+//! we do, what we read the crate's bytes to, and what Part 1 says. That both do it is checked, and that the document states it.
 
 use crate::{
     original,
@@ -10,26 +10,33 @@ use crate::{
 use std::collections::BTreeSet;
 
 /// What the crate and we do is said in one line: bytes in hex, where `00*8` is a byte eight times; a refusal, as `4 at 1`; or
-/// how it ends otherwise.
+/// how it ends otherwise. What we read is a table, as in the document, or a refusal.
 struct Case {
     difference: u32,
     rows: &'static [(Kind, u64)],
     text: &'static str,
     crate_does: &'static str,
     we_do: &'static str,
+    we_read: &'static str,
     part_1: &'static str,
 }
+
+/// What we read where that is the very table.
+const IT: &str = "that table";
+/// The crate has no bytes to read.
+const NOTHING: &str = "-";
 
 /// The document. It has a section for each difference, where tables and bytes stand in backticks.
 const DOCUMENT: &str = include_str!("../../docs/DIFFERENCES.md");
 
-const CASES: [Case; 35] = [
+const CASES: [Case; 39] = [
     Case {
         difference: 1,
         rows: &[(Kind::Array, 1), (Kind::String, 2)],
         text: "c3 98",
         crate_does: "e0 08 01 b1 00 00 00 01 c3 98",
         we_do: "e0 08 01 b1 00 00 00 02 c3 98",
+        we_read: "11 at 0",
         part_1: "the length counts octets: ours",
     },
     Case {
@@ -38,6 +45,7 @@ const CASES: [Case; 35] = [
         text: "",
         crate_does: "e0 03 02 40 40",
         we_do: "4 at 1",
+        we_read: "4 at 0",
         part_1: "one element code, empty payloads: `e0 02 02 40`",
     },
     Case {
@@ -45,24 +53,36 @@ const CASES: [Case; 35] = [
         rows: &[(Kind::Array, 2), (Kind::List, 0), (Kind::List, 0)],
         text: "",
         crate_does: "e0 03 02 45 45",
-        we_do: "4 at 1",
-        part_1: "one element code, empty payloads: `e0 02 02 45`",
+        we_do: "e0 12 02 d0 00 00 00 04 00 00 00 00 00 00 00 04 00 00 00 00",
+        we_read: "4 at 0",
+        part_1: "one element code, empty payloads: `e0 02 02 45`, or ours",
     },
     Case {
         difference: 2,
         rows: &[(Kind::Array, 2), (Kind::List, 1), (Kind::Null, 0), (Kind::List, 0)],
         text: "",
         crate_does: "e0 06 02 c0 02 01 40 45",
-        we_do: "4 at 1",
-        part_1: "the second payload behind `c0` is `01 00`",
+        we_do: "e0 13 02 d0 00 00 00 05 00 00 00 01 40 00 00 00 04 00 00 00 00",
+        we_read: "9 at 0",
+        part_1: "the second payload behind `c0` is `01 00`, or ours",
     },
     Case {
         difference: 2,
         rows: &[(Kind::Array, 2), (Kind::List, 0), (Kind::List, 1), (Kind::Null, 0)],
         text: "",
         crate_does: "e0 05 02 45 02 01 40",
-        we_do: "4 at 1",
-        part_1: "one element code for both, `e0 07 02 c0 01 00 02 01 40`",
+        we_do: "e0 13 02 d0 00 00 00 04 00 00 00 00 00 00 00 05 00 00 00 01 40",
+        we_read: "4 at 0",
+        part_1: "one element code for both, `e0 07 02 c0 01 00 02 01 40`, or ours",
+    },
+    Case {
+        difference: 2,
+        rows: &[(Kind::Array, 1), (Kind::List, 0)],
+        text: "",
+        crate_does: "e0 02 01 45",
+        we_do: "e0 0a 01 d0 00 00 00 04 00 00 00 00",
+        we_read: "4 at 0",
+        part_1: "the crate's bytes, or ours",
     },
     Case {
         difference: 2,
@@ -70,6 +90,7 @@ const CASES: [Case; 35] = [
         text: "",
         crate_does: "e0 02 01 40",
         we_do: "4 at 1",
+        we_read: "4 at 0",
         part_1: "the crate's bytes; that we refuse them is our own choice",
     },
     Case {
@@ -78,6 +99,7 @@ const CASES: [Case; 35] = [
         text: "",
         crate_does: "e0 04 02 50 00 00",
         we_do: "4 at 2",
+        we_read: "`f0:2 50:0 50:0`",
         part_1: "all elements are of one type: no such array",
     },
     Case {
@@ -86,6 +108,7 @@ const CASES: [Case; 35] = [
         text: "",
         crate_does: "e0 05 02 50 00 00 00",
         we_do: "4 at 2",
+        we_read: "12 at 0",
         part_1: "all elements are of one type: no such array",
     },
     Case {
@@ -94,6 +117,7 @@ const CASES: [Case; 35] = [
         text: "",
         crate_does: "e0 04 02 50 07 40",
         we_do: "4 at 2",
+        we_read: "`f0:2 50:7 50:64`",
         part_1: "all elements are of one type: no such array",
     },
     Case {
@@ -102,6 +126,7 @@ const CASES: [Case; 35] = [
         text: "",
         crate_does: "e0 01 00",
         we_do: "e0 01 00",
+        we_read: IT,
         part_1: "an element code even so, as `e0 02 00 70`: neither",
     },
     Case {
@@ -110,6 +135,7 @@ const CASES: [Case; 35] = [
         text: "",
         crate_does: "c1 05 04 40 40 40 40",
         we_do: "c1 05 04 40 40 40 40",
+        we_read: IT,
         part_1: "keys are distinct: no such map",
     },
     Case {
@@ -118,6 +144,7 @@ const CASES: [Case; 35] = [
         text: "",
         crate_does: "c1 13 02 83 00*8 83 00*8",
         we_do: "c1 0c 02 83 00*8 55 00",
+        we_read: "`d1:2 83:0 83:0`",
         part_1: "a long is no timestamp: ours",
     },
     Case {
@@ -126,6 +153,7 @@ const CASES: [Case; 35] = [
         text: "",
         crate_does: "panics: internal error: entered unreachable code",
         we_do: "c1 0c 02 83 00*8 a1 00",
+        we_read: NOTHING,
         part_1: "ours",
     },
     Case {
@@ -134,6 +162,7 @@ const CASES: [Case; 35] = [
         text: "",
         crate_does: "c1 07 02 e0 01 00 e0 01 00",
         we_do: "c1 05 02 e0 01 00 45",
+        we_read: "`d1:2 f0:0 f0:0`",
         part_1: "a list is no array: ours",
     },
     Case {
@@ -142,6 +171,7 @@ const CASES: [Case; 35] = [
         text: "",
         crate_does: "c1 15 02 00 44 83 00*8 83 00*8",
         we_do: "c1 0e 02 00 44 83 00*8 55 00",
+        we_read: "`d1:2 00:2 80:0 83:0 83:0`",
         part_1: "ours",
     },
     Case {
@@ -150,6 +180,7 @@ const CASES: [Case; 35] = [
         text: "",
         crate_does: "00 83 00*8 83 00*8",
         we_do: "00 83 00*8 55 00",
+        we_read: "`00:2 83:0 83:0`",
         part_1: "ours",
     },
     Case {
@@ -158,6 +189,7 @@ const CASES: [Case; 35] = [
         text: "",
         crate_does: "00 e0 01 00 e0 01 00",
         we_do: "00 e0 01 00 45",
+        we_read: "`00:2 f0:0 f0:0`",
         part_1: "ours",
     },
     Case {
@@ -166,6 +198,7 @@ const CASES: [Case; 35] = [
         text: "",
         crate_does: "e0 0c 01 00 b3 00 00 00 00 b3 00 00 00 00",
         we_do: "4 at 1",
+        we_read: "4 at 0",
         part_1: "a string is no symbol: `e0 0c 01 00 b3 00 00 00 00 b1 00 00 00 00`",
     },
     Case {
@@ -174,6 +207,7 @@ const CASES: [Case; 35] = [
         text: "",
         crate_does: "panics: internal error: entered unreachable code",
         we_do: "4 at 1",
+        we_read: NOTHING,
         part_1: "an array as any other",
     },
     Case {
@@ -182,6 +216,7 @@ const CASES: [Case; 35] = [
         text: "",
         crate_does: "panics: internal error: entered unreachable code",
         we_do: "4 at 1",
+        we_read: NOTHING,
         part_1: "an array as any other",
     },
     Case {
@@ -190,6 +225,7 @@ const CASES: [Case; 35] = [
         text: "c3 98",
         crate_does: "a3 02 c3 98",
         we_do: "6 at 0",
+        we_read: "11 at 0",
         part_1: "symbols are ASCII: no such symbol",
     },
     Case {
@@ -198,6 +234,7 @@ const CASES: [Case; 35] = [
         text: "00*1048572",
         crate_does: "b0 00 0f ff fc 00*1048572",
         we_do: "7 at 0",
+        we_read: IT,
         part_1: "the crate's bytes; the limit is our own",
     },
     Case {
@@ -205,48 +242,54 @@ const CASES: [Case; 35] = [
         rows: &[(Kind::Array, 2), (Kind::List, 1), (Kind::Null, 0), (Kind::List, 1), (Kind::Binary, 253)],
         text: "00*253",
         crate_does: "f0 00 00 01 0f 00 00 00 02 c0 02 01 40 00 00 01 03 00 00 00 01 a0 fd 00*253",
-        we_do: "4 at 1",
-        part_1: "fields as wide as the element code says",
+        we_do: "f0 00 00 01 15 00 00 00 02 d0 00 00 00 05 00 00 00 01 40 00 00 01 03 00 00 00 01 a0 fd 00*253",
+        we_read: "12 at 0",
+        part_1: "fields as wide as the element code says: ours",
     },
     Case {
         difference: 7,
         rows: &[(Kind::Array, 2), (Kind::List, 1), (Kind::Binary, 253), (Kind::List, 1), (Kind::Null, 0)],
         text: "00*253",
         crate_does: "f0 00 00 01 0f 00 00 00 02 d0 00 00 01 03 00 00 00 01 a0 fd 00*253 02 01 40",
-        we_do: "4 at 1",
-        part_1: "fields as wide as the element code says",
+        we_do: "f0 00 00 01 15 00 00 00 02 d0 00 00 01 03 00 00 00 01 a0 fd 00*256 05 00 00 00 01 40",
+        we_read: "9 at 0",
+        part_1: "fields as wide as the element code says: ours",
     },
     Case {
         difference: 7,
         rows: &[(Kind::Array, 2), (Kind::Map, 0), (Kind::Map, 2), (Kind::Null, 0), (Kind::Binary, 252)],
         text: "00*252",
         crate_does: "f0 00 00 01 0e 00 00 00 02 c1 01 00 00 00 01 03 00 00 00 02 40 a0 fc 00*252",
-        we_do: "4 at 1",
-        part_1: "fields as wide as the element code says",
+        we_do: "f0 00 00 01 14 00 00 00 02 d1 00 00 00 04 00 00 00 00 00 00 01 03 00 00 00 02 40 a0 fc 00*252",
+        we_read: "12 at 0",
+        part_1: "fields as wide as the element code says: ours",
     },
     Case {
         difference: 7,
         rows: &[(Kind::Array, 2), (Kind::Map, 2), (Kind::Null, 0), (Kind::Binary, 252), (Kind::Map, 0)],
         text: "00*252",
         crate_does: "f0 00 00 01 0e 00 00 00 02 d1 00 00 01 03 00 00 00 02 40 a0 fc 00*252 01 00",
-        we_do: "4 at 1",
-        part_1: "fields as wide as the element code says",
+        we_do: "f0 00 00 01 14 00 00 00 02 d1 00 00 01 03 00 00 00 02 40 a0 fc 00*255 04 00 00 00 00",
+        we_read: "9 at 0",
+        part_1: "fields as wide as the element code says: ours",
     },
     Case {
         difference: 7,
         rows: &[(Kind::Array, 2), (Kind::Array, 0), (Kind::Array, 1), (Kind::Binary, 250)],
         text: "00*250",
         crate_does: "f0 00 00 01 0e 00 00 00 02 e0 01 00 00 00 01 03 00 00 00 01 b0 00 00 00 fa 00*250",
-        we_do: "4 at 1",
-        part_1: "fields as wide as the element code says",
+        we_do: "f0 00 00 01 14 00 00 00 02 f0 00 00 00 04 00 00 00 00 00 00 01 03 00 00 00 01 b0 00 00 00 fa 00*250",
+        we_read: "12 at 0",
+        part_1: "fields as wide as the element code says, an element code in the empty array: neither",
     },
     Case {
         difference: 7,
         rows: &[(Kind::Array, 2), (Kind::Array, 1), (Kind::Binary, 250), (Kind::Array, 0)],
         text: "00*250",
         crate_does: "f0 00 00 01 0e 00 00 00 02 f0 00 00 01 03 00 00 00 01 b0 00 00 00 fa 00*250 01 00",
-        we_do: "4 at 1",
-        part_1: "fields as wide as the element code says",
+        we_do: "f0 00 00 01 14 00 00 00 02 f0 00 00 01 03 00 00 00 01 b0 00 00 00 fa 00*253 04 00 00 00 00",
+        we_read: "9 at 0",
+        part_1: "fields as wide as the element code says, an element code in the empty array: neither",
     },
     Case {
         difference: 7,
@@ -262,6 +305,7 @@ const CASES: [Case; 35] = [
         text: "",
         crate_does: "e0 17 02 00 80 00 00 00 00 00 00 00 01 50 07 00*8 01 07",
         we_do: "4 at 1",
+        we_read: "4 at 0",
         part_1: "the descriptor once, `e0 07 02 00 53 01 50 07 07`",
     },
     Case {
@@ -278,6 +322,7 @@ const CASES: [Case; 35] = [
         text: "",
         crate_does: "e0 0f 02 00 b3 00 00 00 00 50 07 00 00 00 00 00 07",
         we_do: "4 at 1",
+        we_read: "4 at 0",
         part_1: "the descriptor once, `e0 07 02 00 a3 00 50 07 07`",
     },
     Case {
@@ -285,24 +330,54 @@ const CASES: [Case; 35] = [
         rows: &[(Kind::Array, 2), (Kind::List, 1), (Kind::Null, 0), (Kind::List, 1), (Kind::Null, 0)],
         text: "",
         crate_does: "e0 08 02 c0 02 01 40 02 01 40",
-        we_do: "4 at 1",
-        part_1: "the crate's bytes; that we refuse them is our own choice",
+        we_do: "e0 14 02 d0 00 00 00 05 00 00 00 01 40 00 00 00 05 00 00 00 01 40",
+        we_read: IT,
+        part_1: "the crate's bytes, or ours",
     },
     Case {
         difference: 7,
         rows: &[(Kind::Array, 2), (Kind::Map, 0), (Kind::Map, 0)],
         text: "",
         crate_does: "e0 06 02 c1 01 00 01 00",
-        we_do: "4 at 1",
-        part_1: "the crate's bytes; that we refuse them is our own choice",
+        we_do: "e0 12 02 d1 00 00 00 04 00 00 00 00 00 00 00 04 00 00 00 00",
+        we_read: IT,
+        part_1: "the crate's bytes, or ours",
     },
     Case {
         difference: 7,
         rows: &[(Kind::Array, 2), (Kind::Array, 1), (Kind::Ubyte, 7), (Kind::Array, 1), (Kind::Ubyte, 8)],
         text: "",
         crate_does: "e0 0a 02 e0 03 01 50 07 03 01 50 08",
-        we_do: "4 at 1",
-        part_1: "the crate's bytes; that we refuse them is our own choice",
+        we_do: "e0 16 02 f0 00 00 00 06 00 00 00 01 50 07 00 00 00 06 00 00 00 01 50 08",
+        we_read: IT,
+        part_1: "the crate's bytes, or ours",
+    },
+    Case {
+        difference: 7,
+        rows: &[(Kind::Array, 1), (Kind::List, 1), (Kind::List, 1), (Kind::Null, 0)],
+        text: "",
+        crate_does: "e0 08 01 c0 05 01 c0 02 01 40",
+        we_do: "e0 0e 01 d0 00 00 00 08 00 00 00 01 c0 02 01 40",
+        we_read: IT,
+        part_1: "the crate's bytes, or ours",
+    },
+    Case {
+        difference: 7,
+        rows: &[(Kind::Array, 1), (Kind::Array, 1), (Kind::Array, 1), (Kind::Ubyte, 7)],
+        text: "",
+        crate_does: "e0 09 01 e0 06 01 e0 03 01 50 07",
+        we_do: "e0 15 01 f0 00 00 00 0f 00 00 00 01 f0 00 00 00 06 00 00 00 01 50 07",
+        we_read: IT,
+        part_1: "the crate's bytes, or ours",
+    },
+    Case {
+        difference: 7,
+        rows: &[(Kind::Array, 1), (Kind::List, 1), (Kind::Binary, 253)],
+        text: "00*253",
+        crate_does: "f0 00 00 01 0c 00 00 00 01 d0 00 00 01 03 00 00 00 01 a0 fd 00*253",
+        we_do: "f0 00 00 01 0c 00 00 00 01 d0 00 00 01 03 00 00 00 01 a0 fd 00*253",
+        we_read: IT,
+        part_1: "both",
     },
     Case {
         difference: 7,
@@ -310,6 +385,7 @@ const CASES: [Case; 35] = [
         text: "",
         crate_does: "e0 0d 01 00 80 00 00 00 00 00 00 00 01 50 07",
         we_do: "4 at 1",
+        we_read: "4 at 0",
         part_1: "the crate's bytes; that we refuse them is our own choice",
     },
     Case {
@@ -317,8 +393,9 @@ const CASES: [Case; 35] = [
         rows: &[(Kind::Array, 2), (Kind::Array, 0), (Kind::Array, 0)],
         text: "",
         crate_does: "e0 06 02 e0 01 00 01 00",
-        we_do: "4 at 1",
-        part_1: "an element code in each empty array",
+        we_do: "e0 12 02 f0 00 00 00 04 00 00 00 00 00 00 00 04 00 00 00 00",
+        we_read: IT,
+        part_1: "an element code in each empty array: neither",
     },
 ];
 
@@ -338,10 +415,13 @@ pub fn run() -> bool {
                 report::code(if does == known { does } else { format!("NOT AS KNOWN: {does}") })
             };
             let (theirs, ours) = (cell(crate_does(&table), case.crate_does), cell(we_do(&table), case.we_do));
-            vec![case.difference.to_string(), report::code(title(&table)), theirs, ours, case.part_1.to_string()]
+            let read = we_read(&table);
+            as_known &= read == case.we_read;
+            let read = if read == case.we_read { read } else { format!("NOT AS KNOWN: {read}") };
+            vec![case.difference.to_string(), report::code(title(&table)), theirs, ours, read, case.part_1.to_string()]
         })
         .collect();
-    report::table(5, &["", "table", "the crate", "we", "Part 1"], &rows);
+    report::table(6, &["", "table", "the crate", "we", "we read the crate's bytes to", "Part 1"], &rows);
     println!(
         "Not run: bodies of more than 4,294,967,291 bytes (6), where the crate gives `too_long` and casts lengths in arrays."
     );
@@ -363,6 +443,13 @@ fn unlike_document() -> Vec<String> {
                 unlike.push(format!("{} does not state `{due}`", case.difference));
             }
         }
+        // the writer's places are rows, but for that of 7
+        let row = if case.we_do.starts_with("7 ") { " at place " } else { " at row " };
+        for due in [case.we_do.replace(" at ", row), case.we_read.to_string()] {
+            if due.contains(" at ") && !plain(section(case.difference)).contains(&due) {
+                unlike.push(format!("{} does not state {due}", case.difference));
+            }
+        }
     }
     for difference in CASES.iter().map(|case| case.difference).collect::<BTreeSet<_>>() {
         let run: Vec<_> = CASES.iter().filter(|case| case.difference == difference).map(rows).collect();
@@ -372,11 +459,20 @@ fn unlike_document() -> Vec<String> {
     unlike
 }
 
-/// What stands in backticks in the section of a difference.
-fn stated(difference: u32) -> Vec<&'static str> {
+/// The section of a difference.
+fn section(difference: u32) -> &'static str {
     let head = format!("\n## {difference} ");
-    let section = DOCUMENT.split_once(&head).map_or("", |(_, behind)| behind.split("\n## ").next().unwrap_or(behind));
-    section.split('`').skip(1).step_by(2).collect()
+    DOCUMENT.split_once(&head).map_or("", |(_, behind)| behind.split("\n## ").next().unwrap_or(behind))
+}
+
+/// What stands there in backticks.
+fn stated(difference: u32) -> Vec<&'static str> {
+    section(difference).split('`').skip(1).step_by(2).collect()
+}
+
+/// A text in one line, with single spaces.
+fn plain(text: &str) -> String {
+    text.split_whitespace().collect::<Vec<_>>().join(" ")
 }
 
 fn rows(case: &Case) -> String {
@@ -401,6 +497,21 @@ fn we_do(table: &Table) -> String {
         _ if written != told => format!("sizing gives {told}, writing {written}"),
         _ if out[length..] != [PATTERN; 8] => "touches what stands behind".into(),
         0 => runs(&out[..length]),
+        number => format!("{number} at {}", told.place),
+    }
+}
+
+/// What our reader makes of the crate's bytes.
+fn we_read(table: &Table) -> String {
+    let mut bytes = Vec::new();
+    if original::try_write(table, &mut bytes).is_err() {
+        return NOTHING.into();
+    }
+    let (told, back) = ours::read_whole(&bytes);
+    match told.number {
+        0 if told.length as usize != bytes.len() => format!("{} of the bytes", told.length),
+        0 if back == *table => IT.into(),
+        0 => report::code(title(&back)),
         number => format!("{number} at {}", told.place),
     }
 }

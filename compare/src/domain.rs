@@ -1,24 +1,36 @@
-//! Where our bytes and the ported crate's have to be equal (docs/FORMAT.md, 9), judged from the rows alone, without our
-//! writer: one that refused everything must not pass.
+//! What the writer has to refuse (docs/FORMAT.md, 5.2), and where our bytes and the ported crate's have to be equal (9). Both are judged from words
+//! and text alone, without our writer: one that refused everything must not pass.
 
-use crate::table::{Kind, Row, Rows, Table};
+use crate::{
+    ours::Told,
+    table::{Kind, Row, Table},
+};
 
 pub const MOST: u64 = 1_048_576;
 pub const LEVELS: u32 = 32;
 
+/// What sizing has to refuse, but for 7, which goes by the bytes. Nothing where it has to accept.
+pub fn refusal(table: &Table) -> Option<Told> {
+    walk(table, &mut |_, _| {}).err()
+}
+
 /// Whether a table is one that the writer has to accept, but for the bytes that it takes in all.
 pub fn is_table(table: &Table) -> bool {
-    whole(table, |_, _| true)
+    refusal(table).is_none()
 }
 
 /// Whether a table is, beside that, one for which the crate's bytes have to be ours.
 pub fn is_equal(table: &Table) -> bool {
-    whole(table, |row, spot| match spot {
-        Spot::Element(_) => row.kind != Kind::String || row.text.is_ascii(),
-        Spot::Key => !matches!(row.kind, Kind::Timestamp | Kind::Array),
-        Spot::Descriptor => matches!(row.kind, Kind::Symbol | Kind::Ulong),
-        Spot::Any => true,
-    })
+    let mut equal = true;
+    let accepted = walk(table, &mut |row, spot| {
+        equal &= match spot {
+            Spot::Element(_) => !Kind::COMPOUNDS.contains(&row.kind) && (row.kind != Kind::String || row.text.is_ascii()),
+            Spot::Key => !matches!(row.kind, Kind::Timestamp | Kind::Array),
+            Spot::Descriptor => matches!(row.kind, Kind::Symbol | Kind::Ulong),
+            Spot::Any => true,
+        }
+    });
+    accepted.is_ok() && equal
 }
 
 /// Where a value stands. A described value's own value stands where the described value does.
@@ -27,59 +39,97 @@ enum Spot {
     Any,
     Key,
     Descriptor,
+    /// With the kind of the elements before it.
     Element(Option<Kind>),
 }
 
-fn whole(table: &Table, also: impl Fn(&Row, Spot) -> bool) -> bool {
-    let known = table.words.len() % 2 == 0 && table.words.chunks(2).all(|row| Kind::of(row[0]).is_some());
-    if !known {
-        return false;
+/// Goes over a whole table, shows each row that is good to `see`, and gives the first refusal.
+fn walk(table: &Table, see: &mut impl FnMut(&Row, Spot)) -> Result<(), Told> {
+    if table.words.len() % 2 == 1 {
+        return Err(Told::refusal(1, 0));
     }
-    let due: u128 = table.words.chunks(2).map(|row| Kind::of(row[0]).unwrap().text(row[1]) as u128).sum();
-    let mut rows = Rows::of(table);
-    due == table.text.len() as u128 && value(&mut rows, 1, Spot::Any, &also).is_some() && rows.next().is_none()
+    let mut left = Left { table, row: 0, text: 0 };
+    left.value(1, Spot::Any, see)?;
+    if left.row < table.rows() {
+        return Err(Told::refusal(1, left.row as u64));
+    }
+    if left.text < table.text.len() {
+        return Err(Told::refusal(6, table.rows() as u64));
+    }
+    Ok(())
 }
 
-/// Takes a value's rows away; gives its kind if all is well with it.
-fn value(rows: &mut Rows, level: u32, spot: Spot, also: &impl Fn(&Row, Spot) -> bool) -> Option<Kind> {
-    let row = rows.next()?;
-    let fits = level <= LEVELS && number_fits(&row) && text_fits(&row) && also(&row, spot);
-    let alike = match spot {
-        Spot::Element(first) => row.kind.is_element() && first.map_or(true, |kind| kind == row.kind),
-        _ => true,
-    };
-    if !(fits && alike) {
-        return None;
-    }
-    let mut child = |spot| value(rows, level + 1, spot, also);
-    match row.kind {
-        Kind::List => (0..row.number).try_for_each(|_| child(Spot::Any).map(drop))?,
-        Kind::Map => (0..row.number).try_for_each(|i| child(if i % 2 == 0 { Spot::Key } else { Spot::Any }).map(drop))?,
-        Kind::Array => (0..row.number).try_fold(None, |first, _| child(Spot::Element(first)).map(Some)).map(drop)?,
-        Kind::Described => {
-            child(Spot::Descriptor)?;
-            child(if spot == Spot::Key { Spot::Key } else { Spot::Any })?;
+/// The rows and the text that are still to be taken.
+struct Left<'a> {
+    table: &'a Table,
+    row: usize,
+    text: usize,
+}
+
+impl<'a> Left<'a> {
+    /// Takes a value's rows away; gives its kind if all is well with it.
+    fn value(&mut self, level: u32, spot: Spot, see: &mut impl FnMut(&Row, Spot)) -> Result<Kind, Told> {
+        let row = self.take(level, spot)?;
+        see(&row, spot);
+        match row.kind {
+            Kind::List => (0..row.number).try_for_each(|_| self.value(level + 1, Spot::Any, see).map(drop))?,
+            Kind::Map => {
+                let spot = |i| if i % 2 == 0 { Spot::Key } else { Spot::Any };
+                (0..row.number).try_for_each(|i| self.value(level + 1, spot(i), see).map(drop))?
+            }
+            Kind::Array => {
+                let mut first = None;
+                (0..row.number)
+                    .try_for_each(|_| self.value(level + 1, Spot::Element(first), see).map(|kind| first = Some(kind)))?
+            }
+            Kind::Described => {
+                self.value(level + 1, Spot::Descriptor, see)?;
+                self.value(level + 1, if spot == Spot::Key { Spot::Key } else { Spot::Any }, see)?;
+            }
+            _ => {}
         }
-        _ => {}
+        Ok(row.kind)
     }
-    Some(row.kind)
+
+    /// The next row, with its text, if all is well with it.
+    fn take(&mut self, level: u32, spot: Spot) -> Result<Row<'a>, Told> {
+        let table = self.table;
+        let need = |holds: bool, number: u64| if holds { Ok(()) } else { Err(Told::refusal(number, self.row as u64)) };
+        need(self.row < table.rows(), 1)?;
+        let number = table.words[2 * self.row + 1];
+        let kind = Kind::of(table.words[2 * self.row]).ok_or(Told::refusal(2, self.row as u64))?;
+        need(level <= LEVELS, 3)?;
+        let alike = match spot {
+            Spot::Element(first) => kind.is_element() && first.map_or(true, |first| first == kind),
+            _ => true,
+        };
+        need(alike, 4)?;
+        need(number_fits(kind, number), 5)?;
+        let length = kind.text(number);
+        need(length <= table.text.len() - self.text, 6)?;
+        let text = &table.text[self.text..self.text + length];
+        need(text_fits(kind, text), 6)?;
+        self.row += 1;
+        self.text += length;
+        Ok(Row { kind, number, text })
+    }
 }
 
-fn number_fits(row: &Row) -> bool {
-    match row.kind {
-        Kind::Null | Kind::Decimal128 | Kind::Uuid => row.number == 0,
-        Kind::Char => u32::try_from(row.number).is_ok_and(|n| char::from_u32(n).is_some()),
-        Kind::Described => row.number == 2,
-        Kind::Map => row.number <= MOST && row.number % 2 == 0,
-        Kind::Binary | Kind::String | Kind::Symbol | Kind::List | Kind::Array => row.number <= MOST,
-        kind => kind.bits().is_some_and(|bits| bits == 64 || row.number >> bits == 0),
+fn number_fits(kind: Kind, number: u64) -> bool {
+    match kind {
+        Kind::Null | Kind::Decimal128 | Kind::Uuid => number == 0,
+        Kind::Char => u32::try_from(number).is_ok_and(|n| char::from_u32(n).is_some()),
+        Kind::Described => number == 2,
+        Kind::Map => number <= MOST && number % 2 == 0,
+        Kind::Binary | Kind::String | Kind::Symbol | Kind::List | Kind::Array => number <= MOST,
+        kind => kind.bits().is_some_and(|bits| bits == 64 || number >> bits == 0),
     }
 }
 
-fn text_fits(row: &Row) -> bool {
-    match row.kind {
-        Kind::String => std::str::from_utf8(row.text).is_ok(),
-        Kind::Symbol => row.text.is_ascii(),
+fn text_fits(kind: Kind, text: &[u8]) -> bool {
+    match kind {
+        Kind::String => std::str::from_utf8(text).is_ok(),
+        Kind::Symbol => text.is_ascii(),
         _ => true,
     }
 }

@@ -1,8 +1,9 @@
-//! Our bytes against the ported crate's, inside the domain of equality.
+//! Our bytes against the ported crate's, inside the domain of equality; and of all tables against those of the judge's own writer.
 
 use crate::{
-    domain,
+    domain, faults,
     findings::Findings,
+    forms::{self, AsWritten},
     generate::Generator,
     original::{self, Trouble},
     ours::{self, Told, PATTERN},
@@ -19,15 +20,16 @@ pub struct Plan {
 
 pub fn run(plan: &Plan) -> Findings {
     report::heading("Our bytes and the ported crate's");
-    let (mut random, mut small) = (Judge::default(), Judge::default());
-    let mut generator = Generator::equal(plan.seed);
+    let (mut random, mut small, mut all) = (Judge::default(), Judge::default(), Judge::default());
+    let (mut inside, mut any) = (Generator::equal(plan.seed), Generator::all(plan.seed));
     for _ in 0..plan.random {
-        random.try_table(generator.table());
+        random.beside_crate(inside.table());
+        all.beside_judge(any.table());
     }
     let mut outside = Outside::default();
     small::each(plan.rows, &small::ALPHABET, &mut |table| {
         if domain::is_equal(table) {
-            small.try_table(table);
+            small.beside_crate(table);
         } else {
             outside.try_table(table);
         }
@@ -35,28 +37,38 @@ pub fn run(plan: &Plan) -> Findings {
 
     let line = |name: String, judge: &Judge| {
         let c = &judge.counts;
-        let deepest = c.deepest.to_string();
-        vec![name, report::number(c.tables), report::number(c.rows), report::number(c.bytes), deepest, judge.failed.to_string()]
+        let [tables, nested, rows, bytes] = [c.tables, c.nested, c.rows, c.bytes].map(report::number);
+        vec![name, tables, nested, rows, bytes, c.deepest.to_string(), judge.failed.to_string()]
     };
+    const HEAD: [&str; 7] = ["", "tables", "with arrays of lists, maps or arrays", "rows", "bytes", "deepest", "unequal"];
     report::table(
         1,
-        &["tables inside the domain", "tables", "rows", "bytes", "deepest", "unequal"],
+        &[&["inside the domain, beside the crate"], &HEAD[1..]].concat(),
         &[
             line(format!("random, seed {}", plan.seed), &random),
             line(format!("all of at most {} rows over {} leaves", plan.rows, small::ALPHABET.len()), &small),
         ],
     );
-    println!(
-        "For each: the crate's bytes are those of `afsungar_write`, their number that of `afsungar_size`; an output one byte"
+    random.counts.print();
+    report::table(
+        1,
+        &[&["all that we accept, beside the judge's own writer"], &HEAD[1..]].concat(),
+        &[line(format!("random, seed {}", plan.seed), &all)],
     );
+    all.counts.print_arrays();
+    println!("For each table of both: the other's bytes are those of `afsungar_write`, their number that of `afsungar_size`; an output one byte");
     println!(
         "shorter is refused (8 at 0) and not touched; behind the bytes nothing is touched; reading them gives the table again.\n"
     );
-    random.counts.print();
     outside.print(plan.rows);
+    let mut faults = faults::Judge::new(plan.seed);
+    for _ in 0..plan.random {
+        faults.next();
+    }
+    faults.print(plan.random);
 
     let mut findings = random.findings;
-    for (what, found) in small.findings.iter().chain(outside.findings.iter()) {
+    for (what, found) in [small.findings, all.findings, outside.findings, faults.findings].iter().flat_map(Findings::iter) {
         findings.note(what, found.size, || found.example.clone());
     }
     findings.print();
@@ -66,22 +78,28 @@ pub fn run(plan: &Plan) -> Findings {
 /// What the tables held.
 struct Counts {
     tables: u64,
+    /// Of these with an array of lists, maps or arrays.
+    nested: u64,
     rows: u64,
     bytes: u64,
     deepest: u32,
     kinds: [u64; 256],
     forms: [u64; 256],
+    /// Arrays that are not empty, by the kind of their elements.
+    arrays: [u64; 256],
 }
 
 impl Default for Counts {
     fn default() -> Self {
-        Counts { tables: 0, rows: 0, bytes: 0, deepest: 0, kinds: [0; 256], forms: [0; 256] }
+        Counts { tables: 0, nested: 0, rows: 0, bytes: 0, deepest: 0, kinds: [0; 256], forms: [0; 256], arrays: [0; 256] }
     }
 }
 
 impl Counts {
     fn add(&mut self, table: &Table, bytes: &[u8]) {
         self.tables += 1;
+        self.nested += table.is_nested() as u64;
+        table.elements().for_each(|kind| self.arrays[kind as usize & 0xff] += 1);
         self.rows += table.rows() as u64;
         self.bytes += bytes.len() as u64;
         self.deepest = self.deepest.max(depth(table));
@@ -98,6 +116,17 @@ impl Counts {
             .map(|code| format!("{code:02x} {}", report::number(self.forms[code])))
             .collect();
         println!("Their first bytes: {}.\n", forms.join(", "));
+    }
+
+    fn print_arrays(&self) {
+        let held: Vec<_> =
+            Kind::COMPOUNDS.map(|kind| format!("{kind:?} {}", report::number(self.arrays[kind as usize]))).to_vec();
+        let others = Kind::SCALARS.iter().map(|&kind| self.arrays[kind as usize]).sum();
+        println!(
+            "Their arrays that are not empty, by what they hold: {}, all others {}.\n",
+            held.join(", "),
+            report::number(others)
+        );
     }
 }
 
@@ -121,27 +150,41 @@ struct Judge {
 }
 
 impl Judge {
-    fn try_table(&mut self, table: &Table) {
+    fn beside_crate(&mut self, table: &Table) {
         self.theirs.clear();
-        match original::try_write(table, &mut self.theirs) {
-            Ok(()) => self.counts.add(table, &self.theirs),
-            Err(trouble) => return self.fail("the crate does not write", table, trouble.to_string()),
+        if let Err(trouble) = original::try_write(table, &mut self.theirs) {
+            return self.fail("the crate does not write", table, trouble.to_string());
         }
-        let (theirs, length) = (&self.theirs, self.theirs.len());
-        let due = Told::success(length, 0, 0);
         if !domain::is_equal(table) {
             return self.fail("outside the domain", table, String::new());
         }
+        self.hold(table);
+    }
+
+    fn beside_judge(&mut self, table: &Table) {
+        if !domain::is_table(table) {
+            return self.fail("no table that we accept", table, String::new());
+        }
+        self.theirs.clear();
+        forms::write(table, &mut AsWritten, &mut self.theirs);
+        self.hold(table);
+    }
+
+    /// Holds all that we do with a table to the other's bytes.
+    fn hold(&mut self, table: &Table) {
+        self.counts.add(table, &self.theirs);
+        let (theirs, length) = (&self.theirs, self.theirs.len());
+        let due = Told::success(length, 0, 0);
         let told = ours::size(table);
         if told != due {
-            return self.fail("size", table, format!("{told}, the crate writes {}", hex(theirs)));
+            return self.fail("size", table, format!("{told}, the other writes {}", hex(theirs)));
         }
         const BEYOND: usize = 8;
         self.out.clear();
         self.out.resize(length + BEYOND, PATTERN);
         let told = ours::write(table, &mut self.out);
         if told != due || self.out[..length] != theirs[..] {
-            return self.fail("write", table, format!("{told}, {}, the crate writes {}", hex(&self.out[..length]), hex(theirs)));
+            return self.fail("write", table, format!("{told}, {}, the other writes {}", hex(&self.out[..length]), hex(theirs)));
         }
         if self.out[length..] != [PATTERN; BEYOND] {
             return self.fail("write touches what stands behind", table, String::new());
@@ -165,20 +208,25 @@ impl Judge {
 }
 
 /// Small tables outside the domain. What the crate does with them is counted; that we accept or refuse each as the format
-/// says, and read again what we write, is checked.
+/// says, write the bytes of the judge's own writer, and read again what we write, is checked.
 #[derive(Default)]
 struct Outside {
     refused: u64,
     equal: u64,
     differ: u64,
     panics: u64,
+    /// How we read the crate's bytes where they are not ours: to that table, to another, or not at all.
+    read_same: u64,
+    read_other: u64,
+    unread: u64,
     findings: Findings,
 }
 
 impl Outside {
     fn try_table(&mut self, table: &Table) {
         let told = ours::size(table);
-        if told.is_success() != domain::is_table(table) || !told.is_fair() {
+        let due = domain::refusal(table).unwrap_or(Told { number: 0, place: 0, ..told });
+        if told != due || !told.is_fair() {
             self.findings.note("accepted or refused against the format", table.words.len(), || format!("`{table}`: {told}"));
         }
         if !told.is_success() {
@@ -190,8 +238,21 @@ impl Outside {
         let mut theirs = Vec::new();
         match original::try_write(table, &mut theirs) {
             Ok(()) if theirs == out => self.equal += 1,
-            Ok(()) | Err(Trouble::Error(_)) => self.differ += 1,
+            Ok(()) | Err(Trouble::Error(_)) => {
+                self.differ += 1;
+                match ours::read_whole(&theirs) {
+                    (told, _) if !told.is_success() => self.unread += 1,
+                    (_, back) if back == *table => self.read_same += 1,
+                    _ => self.read_other += 1,
+                }
+            }
             Err(Trouble::Panic(_)) => self.panics += 1,
+        }
+        let mut due = Vec::new();
+        forms::write(table, &mut AsWritten, &mut due);
+        if out != due {
+            self.findings
+                .note("write", table.words.len(), || format!("`{table}`: {}, the judge writes {}", hex(&out), hex(&due)));
         }
         let (_, back) = ours::read_whole(&out);
         if back != *table {
@@ -209,6 +270,9 @@ impl Outside {
                 of("we refuse", self.refused),
                 of("both write the same", self.equal),
                 of("the crate writes other bytes", self.differ),
+                of("of these we read to that table", self.read_same),
+                of("to another", self.read_other),
+                of("and refuse", self.unread),
                 of("the crate panics", self.panics),
             ],
         );

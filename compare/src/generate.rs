@@ -16,7 +16,7 @@ enum Spot {
 
 pub struct Generator {
     random: Random,
-    /// Whether tables stay in the domain of equality.
+    /// Whether tables stay in the domain of equality, where no array holds lists, maps or arrays.
     equal: bool,
     table: Table,
     /// Rows that lists and maps may still ask for.
@@ -48,7 +48,11 @@ impl Generator {
                 self.chain(1, deepest, Spot::Any);
             }
             88..=93 => self.edge_compound(1, Spot::Any),
-            94..=97 => self.array(),
+            94..=97 => {
+                self.rows = 40;
+                self.array(1);
+            }
+            98 if !self.equal && self.random.once_in(4) => self.many(),
             _ if self.random.once_in(20) => self.long_text(),
             _ => {
                 self.rows = self.random.within(200, 600);
@@ -69,7 +73,7 @@ impl Generator {
                 self.descriptor(level + 1);
                 self.value(level + 1, spot);
             }
-            8 if !last && spot == Spot::Any => self.array(),
+            8 if !last && spot == Spot::Any => self.array(level),
             9 if !last && self.random.once_in(12) => self.edge_compound(level, spot),
             10 => {
                 let empty: &[Kind] =
@@ -96,34 +100,53 @@ impl Generator {
         if level == deepest {
             return self.leaf_row(spot);
         }
-        match self.random.below(4) {
+        match self.random.below(if self.equal { 4 } else { 6 }) {
             0 => {
                 self.table.row(Kind::Described, 2);
                 self.descriptor(level + 1);
                 self.chain(level + 1, deepest, spot);
             }
-            1 => {
-                self.table.row(Kind::Map, 2);
-                if self.random.once_in(2) {
-                    self.chain(level + 1, deepest, Spot::Key);
-                    self.leaf_row(Spot::Any);
-                } else {
-                    self.leaf_row(Spot::Key);
-                    self.chain(level + 1, deepest, Spot::Any);
-                }
+            1 => self.link(Kind::Map, level, deepest),
+            2 | 3 => self.link(Kind::List, level, deepest),
+            _ => self.link(Kind::Array, level, deepest),
+        }
+    }
+
+    /// A compound in which the chain goes on.
+    fn link(&mut self, kind: Kind, level: u32, deepest: u32) {
+        if kind == Kind::Map {
+            self.table.row(Kind::Map, 2);
+            if self.random.once_in(2) {
+                self.chain(level + 1, deepest, Spot::Key);
+                self.leaf_row(Spot::Any);
+            } else {
+                self.leaf_row(Spot::Key);
+                self.chain(level + 1, deepest, Spot::Any);
             }
-            _ => {
-                let count = self.random.of(&[1, 1, 1, 2, 3]);
-                let turn = self.random.below(count);
-                self.table.row(Kind::List, count as u64);
-                for i in 0..count {
-                    if i == turn {
-                        self.chain(level + 1, deepest, Spot::Any);
-                    } else {
-                        self.leaf_row(Spot::Any);
-                    }
-                }
+            return;
+        }
+        let count = self.random.of(&[1, 1, 1, 2, 3]);
+        let turn = self.random.below(count);
+        self.table.row(kind, count as u64);
+        // an array's elements are of one kind; at the end of the chain they have no children
+        let inner = self.inner(kind, level + 1, deepest);
+        for i in 0..count {
+            match inner {
+                Some(inner) if level + 1 == deepest => self.leaf(inner, true),
+                Some(inner) if i == turn => self.link(inner, level + 1, deepest),
+                Some(inner) => self.empty(inner),
+                None if i == turn => self.chain(level + 1, deepest, Spot::Any),
+                None => self.leaf_row(Spot::Any),
             }
+        }
+    }
+
+    /// The kind of the elements, at that level, where the compound that holds them is an array.
+    fn inner(&mut self, kind: Kind, level: u32, deepest: u32) -> Option<Kind> {
+        match kind {
+            Kind::Array if level == deepest => Some(self.random.of(&Kind::SCALARS)),
+            Kind::Array => Some(self.random.of(&Kind::COMPOUNDS)),
+            _ => None,
         }
     }
 
@@ -138,7 +161,7 @@ impl Generator {
     fn leaf_row(&mut self, spot: Spot) {
         let kind = match self.random.below(21) {
             20 => Kind::Null,
-            i => Kind::ELEMENTS[i],
+            i => Kind::SCALARS[i],
         };
         let kind = if spot == Spot::Key && kind == Kind::Timestamp { Kind::Symbol } else { kind };
         self.leaf(kind, false);
@@ -213,8 +236,12 @@ impl Generator {
         }
     }
 
-    fn array(&mut self) {
-        let kind = self.random.of(&Kind::ELEMENTS);
+    /// An array at a level that is not the last.
+    fn array(&mut self, level: u32) {
+        if !self.equal && self.random.once_in(2) {
+            return self.compound_array(level);
+        }
+        let kind = self.random.of(&Kind::SCALARS);
         let count = match self.random.below(12) {
             0 => 0,
             1 => 1,
@@ -222,9 +249,56 @@ impl Generator {
             3 => self.edge_count(kind),
             _ => self.random.below(8),
         };
+        self.scalars(kind, count);
+    }
+
+    fn scalars(&mut self, kind: Kind, count: usize) {
         self.table.row(Kind::Array, count as u64);
         for _ in 0..count {
             self.leaf(kind, true);
+        }
+    }
+
+    /// An array of lists, maps or arrays, which hold values of all kinds.
+    fn compound_array(&mut self, level: u32) {
+        let kind = self.random.of(&Kind::COMPOUNDS);
+        let count = match self.random.below(12) {
+            0 => 1,
+            1 => self.random.within(28, 34),
+            _ => self.random.within(1, 5),
+        };
+        self.table.row(Kind::Array, count as u64);
+        for _ in 0..count {
+            self.compound_element(kind, level + 1);
+        }
+    }
+
+    fn compound_element(&mut self, kind: Kind, level: u32) {
+        match (self.random.below(12), kind) {
+            _ if level == LEVELS => self.empty(kind),
+            (0, _) | (1..=2, Kind::List | Kind::Map) => self.empty(kind),
+            (3, _) if self.random.once_in(8) => self.edge_of(kind),
+            (4..=7, Kind::Array) => self.compound_array(level),
+            (_, Kind::Array) => {
+                let (kind, count) = (self.random.of(&Kind::SCALARS), self.random.within(1, 5));
+                self.scalars(kind, count);
+            }
+            _ => self.compound(kind, level),
+        }
+    }
+
+    fn empty(&mut self, kind: Kind) {
+        self.table.row(kind, 0);
+    }
+
+    /// More small compounds than the writer keeps the sizes of beside the output, most of them elements.
+    fn many(&mut self) {
+        let kind = self.random.of(&Kind::COMPOUNDS);
+        let count = self.random.within(200, 400);
+        self.table.row(Kind::Array, count as u64);
+        for _ in 0..count {
+            self.rows = 4;
+            self.compound_element(kind, 2);
         }
     }
 
@@ -243,7 +317,23 @@ impl Generator {
         if level == LEVELS {
             return self.leaf_row(spot);
         }
-        match self.random.below(if spot == Spot::Any { 5 } else { 3 }) {
+        let form = self.random.below(if spot == Spot::Any { 5 } else { 3 });
+        self.edge_form(form, body);
+    }
+
+    /// The same, of a kind.
+    fn edge_of(&mut self, kind: Kind) {
+        let body = self.random.within(252, 258);
+        let form = match kind {
+            Kind::List => self.random.below(2),
+            Kind::Map => 2,
+            _ => self.random.within(3, 4),
+        };
+        self.edge_form(form, body);
+    }
+
+    fn edge_form(&mut self, form: usize, body: usize) {
+        match form {
             0 => {
                 self.table.row(Kind::List, body as u64);
                 for _ in 0..body {

@@ -24,14 +24,17 @@ const KNOWN: [(&str, &str); 16] = [
     ("accepts a char that is none", "we: a char is a Unicode character"),
     ("accepts a string that is not UTF-8", "we: a string is UTF-8"),
     ("accepts a symbol that is not ASCII", "we: a symbol is ASCII"),
-    ("accepts bad elements of an array", "we, as with values outside arrays"),
+    ("accepts bad values in an array", "we, as with values outside arrays"),
     (ODD_MAP, "we: a map has keys and values"),
     ("accepts a list or map whose size or count is wrong", "we: size and count both hold"),
-    ("accepts an array whose size is wrong", "we: the size holds"),
+    ("accepts an array in which a size or a count is wrong", "we: both hold"),
     ("accepts a value that runs past its parent's body", "we: the parent's size holds"),
     ("accepts an array of values without payload", "Proton; that we refuse these is our own choice"),
-    ("accepts an array of lists, maps or arrays", "Proton; that we refuse these is our own choice"),
     ("accepts an array of described values", "Proton; that we refuse these is our own choice"),
+    (
+        "accepts an array of described values or of values without payload, within an array",
+        "Proton; that we refuse these is our own choice",
+    ),
     ("accepts more than 32 levels", "Proton; the limit is our own choice"),
 ];
 const ODD_MAP: &str = "accepts a map with an odd count";
@@ -59,12 +62,85 @@ pub fn run(plan: &Plan) -> bool {
     for depth in [32, 33] {
         judge.try_bytes(&lists_in_lists(depth));
     }
+    for bytes in SHOWN_BYTES {
+        judge.try_bytes(bytes);
+    }
     let mut damage = Damage::new(plan.seed);
     for _ in 0..plan.random {
         judge.try_bytes(damage.bytes());
     }
     judge.print(plan);
+    show(&mut judge.data);
     judge.all_known()
+}
+
+/// Arrays of lists, maps and arrays, to be seen both ways.
+const SHOWN: [&[(Kind, u64)]; 9] = [
+    &[(Kind::Array, 2), (Kind::List, 0), (Kind::List, 0)],
+    &[(Kind::Array, 2), (Kind::List, 1), (Kind::Null, 0), (Kind::List, 0)],
+    &[(Kind::Array, 1), (Kind::List, 1), (Kind::List, 1), (Kind::Null, 0)],
+    &[(Kind::Array, 2), (Kind::Map, 2), (Kind::Ubyte, 1), (Kind::Ubyte, 2), (Kind::Map, 0)],
+    &[(Kind::Array, 2), (Kind::Array, 1), (Kind::Ubyte, 7), (Kind::Array, 1), (Kind::Byte, 8)],
+    &[(Kind::Array, 1), (Kind::Array, 1), (Kind::Array, 1), (Kind::Ushort, 1)],
+    &[(Kind::Array, 1), (Kind::Array, 0)],
+    &[(Kind::Array, 2), (Kind::Array, 0), (Kind::Array, 0)],
+    &[(Kind::Array, 2), (Kind::Array, 1), (Kind::Ubyte, 7), (Kind::Array, 0)],
+];
+
+/// Such arrays in forms that we do not write.
+const SHOWN_BYTES: [&[u8]; 9] = [
+    &[0xe0, 0x02, 0x00, 0xc0],
+    &[0xe0, 0x06, 0x02, 0xc0, 0x01, 0x00, 0x01, 0x00],
+    &[0xe0, 0x08, 0x02, 0xc0, 0x02, 0x01, 0x40, 0x02, 0x01, 0x40],
+    &[0xe0, 0x09, 0x01, 0xc1, 0x06, 0x02, 0xa3, 0x01, 0x76, 0x52, 0x02],
+    &[0xe0, 0x0a, 0x02, 0xe0, 0x03, 0x01, 0x50, 0x07, 0x03, 0x01, 0x50, 0x08],
+    &[0xe0, 0x08, 0x02, 0xe0, 0x02, 0x00, 0x50, 0x02, 0x00, 0x50],
+    &[0xe0, 0x06, 0x02, 0xe0, 0x01, 0x00, 0x01, 0x00],
+    &[0xe0, 0x02, 0x02, 0x45],
+    &[0xe0, 0x05, 0x01, 0xe0, 0x02, 0x01, 0x45],
+];
+
+/// Prints what both do with them.
+fn show(data: &mut Data) {
+    println!("Arrays of lists, maps and arrays, as both write them, and as each reads what the other writes:\n");
+    let rows: Vec<_> = SHOWN
+        .iter()
+        .map(|rows| {
+            let mut table = Table::default();
+            for &(kind, number) in *rows {
+                table.row(kind, number);
+            }
+            let mut ours = vec![0; ours::size(&table).length as usize];
+            ours::write(&table, &mut ours);
+            let mut theirs = vec![0; 256];
+            let length = data.put(&table).and_then(|()| data.encode(&mut theirs)).unwrap_or(0);
+            theirs.truncate(length);
+            let (read, back) = (reads(data, &ours), we_read(&theirs));
+            vec![report::code(&table), report::code(hex(&ours)), read, report::code(hex(&theirs)), back]
+        })
+        .collect();
+    report::table(5, &["table", "we write", "Proton reads that to", "Proton writes", "we read that to"], &rows);
+    println!("In forms that we do not write:\n");
+    let rows: Vec<_> =
+        SHOWN_BYTES.iter().map(|bytes| vec![report::code(hex(bytes)), we_read(bytes), reads(data, bytes)]).collect();
+    report::table(3, &["bytes", "we read", "Proton reads"], &rows);
+}
+
+/// What Proton makes of bytes.
+fn reads(data: &mut Data, bytes: &[u8]) -> String {
+    match data.decode(bytes) {
+        Ok(length) if length == bytes.len() => data.table().map_or("a value that no table holds".into(), report::code),
+        Ok(length) => format!("{length} bytes of it"),
+        Err(error) => format!("error {}", error.0),
+    }
+}
+
+fn we_read(bytes: &[u8]) -> String {
+    let (told, table) = ours::read_whole(bytes);
+    match told.number {
+        0 => report::code(table),
+        number => format!("{number} at {}", told.place),
+    }
 }
 
 /// All runs of at most `most` bytes of the alphabet.
@@ -94,6 +170,9 @@ struct Judge {
     /// Tables in which nothing is known that Proton does not read, and those of them that it does read.
     plain: u64,
     plain_read_by: u64,
+    /// The same of those with an array of lists, maps or arrays.
+    nested: u64,
+    nested_read_by: u64,
     /// Of all tables: read by Proton, read from Proton, and with the same bytes.
     read_by: u64,
     read_from: u64,
@@ -112,6 +191,8 @@ impl Judge {
             tables: 0,
             plain: 0,
             plain_read_by: 0,
+            nested: 0,
+            nested_read_by: 0,
             read_by: 0,
             read_from: 0,
             same_bytes: 0,
@@ -136,6 +217,8 @@ impl Judge {
         if known_trouble(table).is_none() {
             self.plain += 1;
             self.plain_read_by += same as u64;
+            self.nested += table.is_nested() as u64;
+            self.nested_read_by += (same && table.is_nested()) as u64;
         }
         self.try_theirs(&bytes, table);
         self.ours = bytes;
@@ -211,6 +294,8 @@ impl Judge {
                 of("tables that both write", self.tables),
                 of("of these without the three that Proton does not read (below)", self.plain),
                 of("our bytes of these read by Proton to the same values", self.plain_read_by),
+                of("of these with arrays of lists, maps or arrays", self.nested),
+                of("our bytes of these read by Proton to the same values", self.nested_read_by),
                 of("our bytes of all read by Proton to the same values", self.read_by),
                 of("Proton's bytes read by us to the same values", self.read_from),
                 of("the same bytes from both (Proton writes lists, maps and arrays in their wide forms)", self.same_bytes),
@@ -272,12 +357,12 @@ fn leniency(bytes: &[u8], told: &Told, length: usize) -> &'static str {
         (11, 0x73) => "accepts a char that is none",
         (11, 0xa1 | 0xb1) => "accepts a string that is not UTF-8",
         (11, 0xa3 | 0xb3) => "accepts a symbol that is not ASCII",
-        (11, _) => "accepts bad elements of an array",
-        (4 | 12, _) if array && (elsewhere || told.number == 12) => "accepts an array whose size is wrong",
+        (11, _) => "accepts bad values in an array",
+        (4 | 12, _) if array && (elsewhere || told.number == 12) => "accepts an array in which a size or a count is wrong",
         (4, _) => match behind(1) {
             Some(0x40..=0x45) => "accepts an array of values without payload",
             Some(0x00) => "accepts an array of described values",
-            _ => "accepts an array of lists, maps or arrays",
+            _ => "accepts an array of described values or of values without payload, within an array",
         },
         (12, 0xc1) if !elsewhere && behind(0).is_some_and(|count| count % 2 == 1) => ODD_MAP,
         (12, _) => "accepts a list or map whose size or count is wrong",

@@ -31,8 +31,27 @@ pub fn all() -> Vec<Shape> {
         Shape::new("balanced tree of lists", balanced(28)),
         Shape::new("chains of 27 lists around a leaf", chains(27)),
         Shape::new(format!("a message of {} rows", message().rows()), message()),
+        Shape::new("small arrays of ubytes, uints and symbols in turn", small_arrays()),
+        Shape::new("20,000 pairs as a list of lists", pairs(Kind::List)),
+        Shape::new("20,000 pairs as an array of lists", pairs(Kind::Array)),
+        Shape::new("an array of chains of 13 arrays", array_chains(13, &[Kind::Array])),
+        Shape::new("an array of chains of 27 arrays", array_chains(27, &[Kind::Array])),
+        Shape::new("an array of chains of 13 lists and arrays in turn", array_chains(13, &[Kind::List, Kind::Array])),
+        Shape::new("an array of chains of 27 lists and arrays in turn", array_chains(27, &[Kind::List, Kind::Array])),
     ]
 }
+
+/// The balanced trees and the chains of lists, by their places among all.
+pub const TREES: [usize; 4] = [2, 3, 4, 5];
+
+/// Pairs of shapes whose times are held to each other: what it says, the first's place among all, the second's.
+pub const RATIOS: [(&str, usize, usize); 5] = [
+    ("20,000 pairs: array of lists / list of lists", 9, 8),
+    ("depth doubled: balanced tree of lists", 4, 2),
+    ("depth doubled: chains of lists", 5, 3),
+    ("depth doubled: chains of arrays in an array", 11, 10),
+    ("depth doubled: chains of lists and arrays in an array", 13, 12),
+];
 
 /// A list of small values; `pick` says which comes at a place.
 fn flat(mut pick: impl FnMut(usize) -> usize) -> Table {
@@ -68,6 +87,49 @@ pub fn chains(lists: usize) -> Table {
     for i in 0..count {
         for _ in 0..lists {
             table.row(Kind::List, 1);
+        }
+        table.row(Kind::Uint, i as u64 % 200);
+    }
+    table
+}
+
+/// A list of arrays of three, whose elements have no children.
+fn small_arrays() -> Table {
+    let mut table = Table::default();
+    let count = (ROWS - 1) / 4;
+    table.row(Kind::List, count as u64);
+    for i in 0..count {
+        table.row(Kind::Array, 3);
+        for j in 0..3 {
+            match i % 3 {
+                0 => table.row(Kind::Ubyte, j),
+                1 => table.row(Kind::Uint, 100 * j),
+                _ => table.worded(Kind::Symbol, b"left"),
+            };
+        }
+    }
+    table
+}
+
+/// A list or an array of 20,000 lists of two small numbers.
+fn pairs(kind: Kind) -> Table {
+    const PAIRS: u64 = 20_000;
+    let mut table = Table::default();
+    table.row(kind, PAIRS);
+    for i in 0..PAIRS {
+        table.row(Kind::List, 2).row(Kind::Uint, i % 200).row(Kind::Uint, i % 1_000);
+    }
+    table
+}
+
+/// An array of chains, each so many compounds of those kinds in turn, one in the other, around a leaf.
+fn array_chains(length: usize, kinds: &[Kind]) -> Table {
+    let mut table = Table::default();
+    let count = (ROWS - 1) / (length + 1);
+    table.row(Kind::Array, count as u64);
+    for i in 0..count {
+        for level in 0..length {
+            table.row(kinds[level % kinds.len()], 1);
         }
         table.row(Kind::Uint, i as u64 % 200);
     }

@@ -41,8 +41,8 @@ impl Kind {
         Decimal64, Decimal128, Uuid, Binary, String, Symbol, List, Map, Array,
     ];
 
-    /// The 20 kinds that may be elements of an array.
-    pub const ELEMENTS: [Kind; 20] = [
+    /// The 20 kinds of elements without children.
+    pub const SCALARS: [Kind; 20] = [
         Ubyte, Byte, Boolean, Ushort, Short, Uint, Int, Float, Char, Decimal32, Ulong, Long, Double, Timestamp, Decimal64,
         Decimal128, Uuid, Binary, String, Symbol,
     ];
@@ -51,8 +51,11 @@ impl Kind {
         Kind::ALL.into_iter().find(|&kind| kind as u64 == word)
     }
 
+    /// The three kinds of elements with children.
+    pub const COMPOUNDS: [Kind; 3] = [List, Map, Array];
+
     pub fn is_element(self) -> bool {
-        !matches!(self, Described | Null | List | Map | Array)
+        !matches!(self, Described | Null)
     }
 
     /// The bits of the kind's number, where it is a number at all.
@@ -112,6 +115,17 @@ impl Table {
 
     pub fn rows(&self) -> usize {
         self.words.len() / 2
+    }
+
+    /// The kinds of the elements of each array that is not empty: that of the row behind the array's own.
+    pub fn elements(&self) -> impl Iterator<Item = u64> + '_ {
+        let pairs = self.words.chunks(2).zip(self.words.chunks(2).skip(1));
+        pairs.filter(|(row, _)| row[0] == Array as u64 && row[1] > 0).map(|(_, first)| first[0])
+    }
+
+    /// Whether an array holds lists, maps or arrays.
+    pub fn is_nested(&self) -> bool {
+        self.elements().any(|kind| Kind::COMPOUNDS.iter().any(|&compound| compound as u64 == kind))
     }
 }
 

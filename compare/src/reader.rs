@@ -1,0 +1,190 @@
+//! The judge's own reader, after docs/FORMAT.md, 4 and 5.3. It shares nothing with ours.
+
+use crate::{
+    domain::LEVELS,
+    ours::Told,
+    table::{Kind, Table},
+};
+
+/// What stands behind a code; sizes, counts and numbers have so many bytes.
+#[derive(Clone, Copy)]
+enum Layout {
+    Constant(u64),
+    Whole(usize),
+    Small,
+    Raw,
+    Sized(usize),
+    Compound(usize),
+    Array(usize),
+    Described,
+}
+
+/// The value at the start of the bytes and its length, or the refusal.
+pub fn read(bytes: &[u8]) -> Result<(Table, usize), Told> {
+    let mut reader = Reader { bytes, table: Table::default() };
+    let length = reader.value(0, bytes.len(), 1, None)?;
+    Ok((reader.table, length))
+}
+
+struct Reader<'a> {
+    bytes: &'a [u8],
+    table: Table,
+}
+
+/// Each reads at a place of a room, which ends at `end`, and gives the place behind what it read. `outer` is the place of the outermost array around it.
+impl<'a> Reader<'a> {
+    fn value(&mut self, at: usize, end: usize, level: u32, outer: Option<usize>) -> Result<usize, Told> {
+        let place = outer.unwrap_or(at);
+        need(level <= LEVELS, 3, place)?;
+        need(at < end, 9, place)?;
+        self.payload(self.bytes[at], place, at + 1, end, level, outer)
+    }
+
+    /// What stands behind a code.
+    fn payload(
+        &mut self,
+        code: u8,
+        place: usize,
+        at: usize,
+        end: usize,
+        level: u32,
+        outer: Option<usize>,
+    ) -> Result<usize, Told> {
+        let (kind, layout) = entry(code).ok_or(Told::refusal(10, place as u64))?;
+        match layout {
+            Layout::Described => {
+                self.table.row(kind, 2);
+                let value = self.value(at, end, level + 1, outer)?;
+                self.value(value, end, level + 1, outer)
+            }
+            Layout::Compound(width) => {
+                let (count, mut at, end) = self.fields(width, place, at, end)?;
+                need(kind != Kind::Map || count % 2 == 0, 12, place)?;
+                self.table.row(kind, count);
+                for _ in 0..count {
+                    at = self.value(at, end, level + 1, outer)?;
+                }
+                need(at == end, 12, place)?;
+                Ok(end)
+            }
+            Layout::Array(width) => {
+                let (count, at, end) = self.fields(width, place, at, end)?;
+                self.table.row(kind, count);
+                self.elements(count, place, at, end, level)
+            }
+            _ => self.scalar(kind, layout, place, at, end),
+        }
+    }
+
+    /// The body of an array: all that it holds is refused at one place.
+    fn elements(&mut self, count: u64, place: usize, at: usize, end: usize, level: u32) -> Result<usize, Told> {
+        need(count == 0 || level < LEVELS, 3, place)?;
+        if at == end {
+            need(count == 0, 9, place)?;
+            return Ok(end);
+        }
+        let code = self.bytes[at];
+        let (_, layout) = entry(code).ok_or(Told::refusal(10, place as u64))?;
+        let payload = !matches!(layout, Layout::Constant(_) | Layout::Whole(0) | Layout::Described);
+        need(payload, 4, place)?;
+        let mut at = at + 1;
+        for _ in 0..count {
+            at = self.payload(code, place, at, end, level + 1, Some(place))?;
+        }
+        need(at == end, 12, place)?;
+        Ok(end)
+    }
+
+    /// Count, and the body's two ends.
+    fn fields(&self, width: usize, place: usize, at: usize, end: usize) -> Result<(u64, usize, usize), Told> {
+        let size = self.number(width, place, at, end)? as usize;
+        need(size >= width, 12, place)?;
+        need(end - at - width >= size, 9, place)?;
+        let count = self.number(width, place, at + width, end)?;
+        Ok((count, at + 2 * width, at + width + size))
+    }
+
+    fn number(&self, width: usize, place: usize, at: usize, end: usize) -> Result<u64, Told> {
+        need(end - at >= width, 9, place)?;
+        Ok(self.bytes[at..at + width].iter().fold(0, |number, &byte| number << 8 | byte as u64))
+    }
+
+    fn scalar(&mut self, kind: Kind, layout: Layout, place: usize, at: usize, end: usize) -> Result<usize, Told> {
+        let (number, text, length) = match layout {
+            Layout::Constant(number) => (number, 0..0, 0),
+            Layout::Small => {
+                let byte = self.number(1, place, at, end)? as i8;
+                let bits = kind.bits().expect("a number has bits");
+                (byte as i64 as u64 & (u64::MAX >> (64 - bits)), 0..0, 1)
+            }
+            Layout::Raw => {
+                need(end - at >= 16, 9, place)?;
+                (0, at..at + 16, 16)
+            }
+            Layout::Sized(width) => {
+                let number = self.number(width, place, at, end)?;
+                let from = at + width;
+                need((end - from) as u64 >= number, 9, place)?;
+                (number, from..from + number as usize, width + number as usize)
+            }
+            Layout::Whole(width) => (self.number(width, place, at, end)?, 0..0, width),
+            _ => unreachable!("no scalar"),
+        };
+        let text = &self.bytes[text];
+        let good = match kind {
+            Kind::Boolean => number <= 1,
+            Kind::Char => char::from_u32(number as u32).is_some(),
+            Kind::String => std::str::from_utf8(text).is_ok(),
+            Kind::Symbol => text.is_ascii(),
+            _ => true,
+        };
+        need(good, 11, place)?;
+        self.table.text.extend_from_slice(text);
+        self.table.row(kind, number);
+        Ok(at + length)
+    }
+}
+
+fn need(holds: bool, number: u64, place: usize) -> Result<(), Told> {
+    match holds {
+        true => Ok(()),
+        false => Err(Told::refusal(number, place as u64)),
+    }
+}
+
+/// The kind of row that a code reads to, and what stands behind it.
+fn entry(code: u8) -> Option<(Kind, Layout)> {
+    use Layout::*;
+    Some(match code {
+        0x00 => (Kind::Described, Described),
+        0x41 => (Kind::Boolean, Constant(1)),
+        0x42 => (Kind::Boolean, Constant(0)),
+        0x43 => (Kind::Uint, Constant(0)),
+        0x44 => (Kind::Ulong, Constant(0)),
+        0x45 => (Kind::List, Constant(0)),
+        0x52 => (Kind::Uint, Whole(1)),
+        0x53 => (Kind::Ulong, Whole(1)),
+        0x54 => (Kind::Int, Small),
+        0x55 => (Kind::Long, Small),
+        0xa0 => (Kind::Binary, Sized(1)),
+        0xa1 => (Kind::String, Sized(1)),
+        0xa3 => (Kind::Symbol, Sized(1)),
+        0xc0 => (Kind::List, Compound(1)),
+        0xc1 => (Kind::Map, Compound(1)),
+        0xe0 => (Kind::Array, Array(1)),
+        // all others are kinds, in their full width
+        _ => {
+            let kind = Kind::of(code as u64)?;
+            let layout = match kind {
+                Kind::Null => Whole(0),
+                Kind::Boolean => Whole(1),
+                Kind::Decimal128 | Kind::Uuid => Raw,
+                Kind::Binary | Kind::String | Kind::Symbol => Sized(4),
+                Kind::List | Kind::Map => Compound(4),
+                Kind::Array => Array(4),
+                kind => Whole(kind.bits().expect("a number has bits") as usize / 8),
+            };
+            (kind, layout)
+        }
+    })
+}
