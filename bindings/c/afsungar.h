@@ -3,16 +3,18 @@
  * Link with libexport.a, which `rt staticlib export` makes (x86-64):   cc program.c libexport.a
  *
  * A table is words, two to a row (kind, number), the parent first, and beside them the text: the bytes of all rows that have
- * some, in the order of the rows.
+ * some, in the order of the rows. Each child stands with all that is below it before the next, in lists, maps and arrays alike: an
+ * array of two lists, of uint 1 and of uint 2 and 3, is
+ *   {AFSUNGAR_ARRAY, 2, AFSUNGAR_LIST, 1, AFSUNGAR_UINT, 1, AFSUNGAR_LIST, 2, AFSUNGAR_UINT, 2, AFSUNGAR_UINT, 3}
  *
  * What is answered
  *   Each function returns the number of the refusal, 1 to 14 (below), or 0 for success. All else that it answers is stored
- *   behind the last pointers, and each of them is always stored. On success *place is 0. On a refusal *place says where: in
- *   writing a row, in reading an offset, both from 0; every length and count is 0; and all lent memory is as it was. On
- *   success nothing is touched behind what is filled.
+ *   behind the last pointers, and each of them is always stored. On success *place is 0. On a refusal *place says where, from 0:
+ *   in writing a row; in reading an offset, which for all that stands in an array is that of the outermost array. Every length
+ *   and count is then 0, and all lent memory is as it was. On success nothing is touched behind what is filled.
  *
  * What is lent
- *   - A length is the number of elements: words_len counts words, so rows times 2; all other lengths count bytes.
+ *   - A length counts what is lent: words_len counts words, so rows times 2; all other lengths count bytes.
  *   - No pointer may be null, not even where its length is 0: what is promised is promised of memory that is lent. To lend
  *     nothing, point to anything of the type and give 0 as the length; nothing is then read or written there.
  *   - Words and answers are uint64_t, aligned as such.
@@ -78,7 +80,7 @@ enum afsungar_kind {
     AFSUNGAR_SYMBOL = 0xb3,     /* the same, in ASCII */
     AFSUNGAR_LIST = 0xd0,       /* the number of children */
     AFSUNGAR_MAP = 0xd1,        /* the number of keys plus values; children: key, value, key, value, .. */
-    AFSUNGAR_ARRAY = 0xf0       /* the number of children, which are all of one kind */
+    AFSUNGAR_ARRAY = 0xf0       /* the number of children, all of one kind: any but null and described */
 };
 
 /* The number of bytes that afsungar_write writes. Refusals: 1 to 7. */

@@ -1,7 +1,9 @@
-/* Lists the rows of the first value of a file, within its first 4,096 bytes, as the listing does (docs/FORMAT.md, 8).
+/* Writes an order to standard output; or lists the rows of the first value of a file, within its first 4,096 bytes, as the listing
+ * does (docs/FORMAT.md, 8).
  *
  *     rt staticlib export                       # makes target/staticlib/libexport.a
  *     cc -Ibindings/c bindings/c/order.c target/staticlib/libexport.a -o target/order
+ *     target/order >target/order.amqp           # the same bytes as examples/order.amqp
  *     target/order examples/order.amqp */
 #include <inttypes.h>
 #include <stdio.h>
@@ -10,20 +12,57 @@
 
 enum { MOST = 4096 };
 
-int main(int count, char **words) {
-    static uint8_t bytes[MOST], text[MOST];
-    static uint64_t table[2 * MOST];
-    uint64_t place, length, rows, used;
+/* An order: which one and when, what, its size, the sizes at hand, how many for each ear, and each ear's vents. These are an array
+ * of lists; a vent is its size, and how far across and up it is, in tenths of a millimetre. */
+static const uint64_t order[] = {
+    AFSUNGAR_DESCRIBED, 2, AFSUNGAR_SYMBOL, 19, AFSUNGAR_LIST, 7,
+    AFSUNGAR_ULONG, 4711, AFSUNGAR_TIMESTAMP, 1763164800000,
+    AFSUNGAR_SYMBOL, 9, AFSUNGAR_STRING, 5,
+    AFSUNGAR_ARRAY, 3, AFSUNGAR_STRING, 5, AFSUNGAR_STRING, 5, AFSUNGAR_STRING, 2,
+    AFSUNGAR_MAP, 4, AFSUNGAR_SYMBOL, 4, AFSUNGAR_UINT, 2, AFSUNGAR_SYMBOL, 5, AFSUNGAR_UINT, 1,
+    AFSUNGAR_MAP, 4,
+    AFSUNGAR_SYMBOL, 4, AFSUNGAR_ARRAY, 2,
+    AFSUNGAR_LIST, 3, AFSUNGAR_STRING, 5, AFSUNGAR_INT, 35, AFSUNGAR_INT, (uint32_t)-12,
+    AFSUNGAR_LIST, 3, AFSUNGAR_STRING, 5, AFSUNGAR_INT, 48, AFSUNGAR_INT, 7,
+    AFSUNGAR_SYMBOL, 5, AFSUNGAR_ARRAY, 1,
+    AFSUNGAR_LIST, 3, AFSUNGAR_STRING, 5, AFSUNGAR_INT, (uint32_t)-35, AFSUNGAR_INT, (uint32_t)-12,
+};
 
-    FILE *file = count == 2 ? fopen(words[1], "rb") : NULL;
-    if (!file) return fprintf(stderr, "usage: order FILE\n"), 2;
+/* Its text. \303\230 is the letter in front of a diameter, in UTF-8: two bytes, so these strings have five. */
+static const uint8_t letters[] = "afsungar:order:list" "ear-shell" "\303\2301.2" "\303\2301.2" "\303\2301.3" "M4"
+    "left" "right" "left" "\303\2301.2" "\303\2301.3" "right" "\303\2301.2";
+
+static uint8_t bytes[MOST], text[MOST];
+static uint64_t table[2 * MOST];
+
+static int refused(uint64_t refusal, uint64_t place) {
+    printf("refused %" PRIu64 " %" PRIu64 "\n", refusal, place);
+    return 1;
+}
+
+static int write_order(void) {
+    uint64_t place, length;
+    /* the text ends before the 0 that C puts behind it */
+    uint64_t refusal = afsungar_write(order, sizeof order / sizeof *order, letters, sizeof letters - 1, bytes, MOST, &place, &length);
+    if (refusal) return refused(refusal, place);
+    return fwrite(bytes, 1, length, stdout) != length;
+}
+
+static int list(FILE *file) {
+    uint64_t place, length, rows, used;
     size_t read = fread(bytes, 1, MOST, file);
     fclose(file);
-
     uint64_t refusal = afsungar_read(bytes, read, table, 2 * MOST, text, MOST, &place, &length, &rows, &used);
-    if (refusal) return printf("refused %" PRIu64 " %" PRIu64 "\n", refusal, place), 1;
+    if (refusal) return refused(refusal, place);
     for (uint64_t row = 0; row < rows; row++)
         printf("%" PRIu64 " %02" PRIx64 " %" PRIu64 "\n", row, table[2 * row], table[2 * row + 1]);
     printf("end %" PRIu64 "\n", length);
     return 0;
+}
+
+int main(int count, char **words) {
+    if (count == 1) return write_order();
+    FILE *file = count == 2 ? fopen(words[1], "rb") : NULL;
+    if (!file) return fprintf(stderr, "usage: order [FILE]\n"), 2;
+    return list(file);
 }

@@ -160,7 +160,27 @@ impl Builder {
         self.parent(Kind::Map, entries)
     }
 
-    /// An array of what `elements` puts in: all of one kind, which is not null, list, map, array or described.
+    /// An array of what `elements` puts in: all of one kind, which is neither null nor described.
+    ///
+    /// Elements that are lists, maps or arrays need not be alike beyond that.
+    ///
+    /// ```
+    /// # fn main() -> Result<(), afsungar::Refusal> {
+    /// let vents = [("Ø1.2", 35, -12), ("Ø1.3", 48, 7)];
+    /// let array = afsungar::Table::build(|t| {
+    ///     t.array(|t| {
+    ///         for (size, across, up) in vents {
+    ///             t.list(|t| {
+    ///                 t.string(size).int(across).int(up);
+    ///             });
+    ///         }
+    ///     });
+    /// });
+    /// assert_eq!(array.rows().map(|row| row.count()).collect::<Vec<_>>(), [2, 3, 0, 0, 0, 3, 0, 0, 0]);
+    /// assert_eq!(array.to_bytes()?.len(), 42);
+    /// # Ok(())
+    /// # }
+    /// ```
     pub fn array(&mut self, elements: impl FnOnce(&mut Self)) -> &mut Self {
         self.parent(Kind::Array, elements)
     }
@@ -190,6 +210,70 @@ impl Builder {
     /// An array of these values.
     pub fn array_of<'a, V: Into<Value<'a>>>(&mut self, elements: impl IntoIterator<Item = V>) -> &mut Self {
         self.array(|t| t.extend(elements))
+    }
+
+    /// An array of lists, each of these values.
+    ///
+    /// ```
+    /// # fn main() -> Result<(), afsungar::Refusal> {
+    /// use afsungar::{Table, Value};
+    ///
+    /// let pairs = Table::build(|t| {
+    ///     t.array_of_lists([[1u32, 2], [3, 4]]);
+    /// });
+    /// let mixed = Table::build(|t| {
+    ///     t.array_of_lists([vec![Value::String("M4"), Value::Uint(2)], vec![]]);
+    /// });
+    /// assert_eq!(Table::from_bytes(&pairs.to_bytes()?)?, pairs);
+    /// assert_eq!(Table::from_bytes(&mixed.to_bytes()?)?, mixed);
+    /// # Ok(())
+    /// # }
+    /// ```
+    pub fn array_of_lists<'a, V: Into<Value<'a>>>(
+        &mut self,
+        lists: impl IntoIterator<Item = impl IntoIterator<Item = V>>,
+    ) -> &mut Self {
+        self.array_by(lists, |t, list| t.list_of(list))
+    }
+
+    /// An array of maps, each of these keys and values.
+    ///
+    /// ```
+    /// # fn main() -> Result<(), afsungar::Refusal> {
+    /// use afsungar::Table;
+    ///
+    /// let maps = Table::build(|t| {
+    ///     t.array_of_maps([[("left", 2u32), ("right", 1)], [("left", 0), ("right", 3)]]);
+    /// });
+    /// assert_eq!(Table::from_bytes(&maps.to_bytes()?)?, maps);
+    /// # Ok(())
+    /// # }
+    /// ```
+    pub fn array_of_maps<'a, K: Into<Value<'a>>, V: Into<Value<'a>>>(
+        &mut self,
+        maps: impl IntoIterator<Item = impl IntoIterator<Item = (K, V)>>,
+    ) -> &mut Self {
+        self.array_by(maps, |t, map| t.map_of(map))
+    }
+
+    /// An array of arrays, each of these values.
+    ///
+    /// ```
+    /// # fn main() -> Result<(), afsungar::Refusal> {
+    /// use afsungar::Table;
+    ///
+    /// let rows = Table::build(|t| {
+    ///     t.array_of_arrays([[1.0f64, 0.0], [0.0, 1.0]]);
+    /// });
+    /// assert_eq!(Table::from_bytes(&rows.to_bytes()?)?, rows);
+    /// # Ok(())
+    /// # }
+    /// ```
+    pub fn array_of_arrays<'a, V: Into<Value<'a>>>(
+        &mut self,
+        arrays: impl IntoIterator<Item = impl IntoIterator<Item = V>>,
+    ) -> &mut Self {
+        self.array_by(arrays, |t, array| t.array_of(array))
     }
 
     /// A map of these keys and values.
@@ -249,6 +333,19 @@ impl Builder {
         self.words.extend_from_slice(table.words());
         self.text.extend_from_slice(table.text());
         self
+    }
+
+    /// An array with what `put` makes of each item.
+    fn array_by<T>(
+        &mut self,
+        items: impl IntoIterator<Item = T>,
+        put: impl Fn(&mut Self, T) -> &mut Self,
+    ) -> &mut Self {
+        self.array(|t| {
+            for item in items {
+                put(t, item);
+            }
+        })
     }
 
     /// A row with the number of what `children` puts in.

@@ -11,6 +11,7 @@ macro_rules! kinds {
         /// assert_eq!(Kind::from_code(0xb3), Some(Kind::Symbol));
         /// assert_eq!(Kind::Symbol.to_string(), "symbol");
         /// assert_eq!(Kind::ALL.len(), 25);
+        /// assert_eq!(Kind::ALL.iter().filter(|kind| kind.is_element()).count(), 23);
         /// ```
         #[derive(Clone, Copy, Debug, PartialEq, Eq, PartialOrd, Ord, Hash)]
         #[repr(u8)]
@@ -87,7 +88,7 @@ kinds! {
     List = 0xd0, "list";
     /// An even number of children: key, value, key, value, and so on.
     Map = 0xd1, "map";
-    /// Children of one kind.
+    /// Any number of children, all of one kind, which is neither null nor described.
     Array = 0xf0, "array";
 }
 
@@ -104,10 +105,10 @@ impl Kind {
         matches!(self, Kind::Described | Kind::List | Kind::Map | Kind::Array)
     }
 
-    /// Whether it may be an array's element: any kind but null and those that have children.
+    /// Whether it may be an array's element: any kind but null and described.
     #[must_use]
     pub const fn is_element(self) -> bool {
-        !self.has_children() && !matches!(self, Kind::Null)
+        !matches!(self, Kind::Null | Kind::Described)
     }
 }
 

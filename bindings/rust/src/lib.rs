@@ -27,6 +27,23 @@
 //! A value is a table: rows of two words each, a kind and a number, the parent first; and beside them the bytes of all
 //! texts. [`Table`] owns one. [`Builder`] puts one together, and [`Row`] and [`Value`] look into it.
 //!
+//! An array holds values of one kind, lists, maps and arrays among them:
+//!
+//! ```
+//! # fn main() -> Result<(), afsungar::Refusal> {
+//! use afsungar::Table;
+//!
+//! let lists = Table::build(|t| {
+//!     t.array_of_lists([[35, -12], [48, 7]]);
+//! });
+//! let table = Table::from_bytes(&lists.to_bytes()?)?;
+//! for list in table.root().into_iter().flat_map(|array| array.children()) {
+//!     println!("{:?}", list.child_values()?);
+//! }
+//! # Ok(())
+//! # }
+//! ```
+//!
 //! Underneath are four functions that work on lent memory and allocate nothing: [`size`], [`write`](write()), [`measure`]
 //! and [`read`]; and the [`Walker`], which goes through values that stand end to end. [`values`] is an iterator that does
 //! the same.

@@ -152,7 +152,8 @@ impl Refusal {
         (self.task == Task::Writing && self.has_place()).then_some(self.place)
     }
 
-    /// The offset of the value where reading ended, from 0: of its format code, or of where that would be.
+    /// The offset of the value where reading ended, from 0: of its format code, or of where that would be. For all that
+    /// stands in an array, at any depth, it is the array's own, and where arrays stand in arrays the outermost one's.
     #[must_use]
     pub fn offset(&self) -> Option<u64> {
         (self.task == Task::Reading && self.has_place()).then_some(self.place)

@@ -287,6 +287,32 @@ impl<'a> Row<'a> {
     pub fn children(&self) -> Children<'a> {
         Children { cursor: self.behind, below: 0, left: self.count() }
     }
+
+    /// What each child holds, in order. It is refused where a child is none of its kind, as [`Row::value`] is.
+    ///
+    /// ```
+    /// # fn main() -> Result<(), afsungar::Refusal> {
+    /// use afsungar::{Table, Value};
+    ///
+    /// let vents = Table::build(|t| {
+    ///     t.array(|t| {
+    ///         t.list_of([Value::String("Ø1.2"), Value::Int(35)]);
+    ///         t.list_of([Value::String("Ø1.3"), Value::Int(48)]);
+    ///     });
+    /// });
+    /// let mut found = Vec::new();
+    /// for vent in vents.root().into_iter().flat_map(|array| array.children()) {
+    ///     if let [Value::String(size), Value::Int(across)] = vent.child_values()?[..] {
+    ///         found.push((size, across));
+    ///     }
+    /// }
+    /// assert_eq!(found, [("Ø1.2", 35), ("Ø1.3", 48)]);
+    /// # Ok(())
+    /// # }
+    /// ```
+    pub fn child_values(&self) -> Result<Vec<Value<'a>>, Refusal> {
+        self.children().map(|child| child.value()).collect()
+    }
 }
 
 /// A number at the width of its kind.

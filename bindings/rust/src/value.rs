@@ -69,7 +69,7 @@ pub enum Value<'a> {
     List(usize),
     /// So many keys and values follow, both counted: a map of two entries is `Map(4)`.
     Map(usize),
-    /// So many elements follow, all of one kind.
+    /// So many elements follow, all of one kind, which may be list, map or array.
     Array(usize),
 }
 

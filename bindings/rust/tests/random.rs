@@ -1,5 +1,7 @@
 //! Tables and bytes by chance, always the same ones.
-use afsungar::{measure, read, size, values, write, Builder, Extent, Kind, Reason, Table, Walker, MAX_LEVEL};
+use std::collections::BTreeMap;
+
+use afsungar::{measure, read, size, values, write, Builder, Extent, Kind, Reason, Row, Table, Walker, MAX_LEVEL};
 
 /// xorshift64*, from a fixed seed.
 struct Chance(u64);
@@ -93,8 +95,7 @@ impl Chance {
             Kind::List => t.list(|t| (0..self.children(level)).for_each(|_| self.any(t, level + 1))),
             Kind::Map => t.map(|t| (0..2 * self.children(level)).for_each(|_| self.any(t, level + 1))),
             Kind::Array => t.array(|t| {
-                let elements: Vec<Kind> = Kind::ALL.into_iter().filter(|kind| kind.is_element()).collect();
-                let kind = elements[self.below(elements.len())];
+                let kind = self.kind(level + 1, false, true);
                 (0..self.children(level)).for_each(|_| self.put(t, kind, level + 1));
             }),
             Kind::Described => t.described(|t| (0..2).for_each(|_| self.any(t, level + 1))),
@@ -110,38 +111,75 @@ impl Chance {
         }
     }
 
-    fn any(&mut self, t: &mut Builder, level: usize) {
+    /// A kind for a value at this level: one that has children, if it has to be, and one that arrays hold, if it is in one.
+    fn kind(&mut self, level: usize, parent: bool, element: bool) -> Kind {
         let parents = [Kind::List, Kind::Map, Kind::Array, Kind::Described];
         loop {
-            let kind = if self.below(4) == 0 { parents[self.below(4)] } else { Kind::ALL[self.below(25)] };
-            if kind != Kind::Described || level < MAX_LEVEL {
-                return self.put(t, kind, level);
+            let kind = if parent || self.below(4) == 0 { parents[self.below(4)] } else { Kind::ALL[self.below(25)] };
+            if (kind.is_element() || !element) && (kind != Kind::Described || level < MAX_LEVEL) {
+                return kind;
             }
         }
+    }
+
+    fn any(&mut self, t: &mut Builder, level: usize) {
+        let kind = self.kind(level, false, false);
+        self.put(t, kind, level);
     }
 
     /// Now and then deep down.
     fn table(&mut self) -> Table {
         let depth = if self.below(8) == 0 { self.below(MAX_LEVEL) } else { 0 };
-        Table::build(|t| self.down(t, depth, 1))
+        let kind = self.kind(1, depth > 0, false);
+        Table::build(|t| self.down(t, kind, depth, 1))
     }
 
-    fn down(&mut self, t: &mut Builder, depth: usize, level: usize) {
+    /// A value of this kind, with parents one in the other below it, so many levels down.
+    fn down(&mut self, t: &mut Builder, kind: Kind, depth: usize, level: usize) {
         if depth == 0 {
-            return self.any(t, level);
+            return self.put(t, kind, level);
         }
-        match self.below(3) {
-            0 => t.list(|t| self.down(t, depth - 1, level + 1)),
-            1 => t.map(|t| self.down(t.null(), depth - 1, level + 1)),
-            _ => t.described(|t| self.down(t.ulong(36), depth - 1, level + 1)),
+        let below = self.kind(level + 1, depth > 1, kind == Kind::Array);
+        match kind {
+            Kind::List => t.list(|t| self.down(t, below, depth - 1, level + 1)),
+            Kind::Map => t.map(|t| self.down(t.null(), below, depth - 1, level + 1)),
+            Kind::Described => t.described(|t| self.down(t.ulong(36), below, depth - 1, level + 1)),
+            _ => t.array(|t| {
+                // Beside it are elements that have no children, before and behind it.
+                (0..self.below(2)).for_each(|_| self.put(t, below, MAX_LEVEL));
+                self.down(t, below, depth - 1, level + 1);
+                (0..self.below(2)).for_each(|_| self.put(t, below, MAX_LEVEL));
+            }),
         };
+    }
+}
+
+/// The kinds of elements of the arrays in a value, each with how often it is there, and the deepest level in an array.
+#[derive(Default)]
+struct Arrays {
+    of: BTreeMap<u64, usize>,
+    deepest: usize,
+}
+
+impl Arrays {
+    fn see(&mut self, row: Row<'_>, level: usize, inside: bool) {
+        let is_array = row.kind == Kind::Array.code();
+        if inside {
+            self.deepest = self.deepest.max(level);
+        }
+        for (at, child) in row.children().enumerate() {
+            if is_array && at == 0 {
+                *self.of.entry(child.kind).or_default() += 1;
+            }
+            self.see(child, level + 1, inside || is_array);
+        }
     }
 }
 
 #[test]
 fn tables_there_and_back() {
     let mut chance = Chance(0x00af_5a17_9a6e_d001);
-    let (mut rows, mut longest, mut kinds) = (0, 0, [0u32; 256]);
+    let (mut rows, mut longest, mut kinds, mut arrays) = (0, 0, [0u32; 256], Arrays::default());
     for _ in 0..30_000 {
         let table = chance.table();
         let bytes = table.to_bytes().unwrap();
@@ -152,6 +190,7 @@ fn tables_there_and_back() {
         let values = again.values().unwrap();
         values.iter().for_each(|value| kinds[value.kind() as usize] += 1);
         assert_eq!(values.into_iter().collect::<Table>(), table);
+        again.root().into_iter().for_each(|root| arrays.see(root, 1, false));
 
         // One byte less of output, of rows and of text; and a front part of the bytes.
         let mut out = vec![0xaa; bytes.len() - 1];
@@ -171,6 +210,28 @@ fn tables_there_and_back() {
     }
     assert!(Kind::ALL.iter().all(|&kind| kinds[kind as usize] > 1000), "{kinds:?}");
     assert!(rows > 100_000 && longest > 2_000, "{rows} rows, the longest value has {longest} bytes");
+    let elements = Kind::ALL.into_iter().filter(|kind| kind.is_element()).map(Kind::code);
+    assert!(arrays.of.keys().copied().eq(elements), "{:x?}", arrays.of);
+    let compounds = [Kind::List, Kind::Map, Kind::Array];
+    assert!(compounds.iter().all(|kind| arrays.of[&kind.code()] > 1000), "{:x?}", arrays.of);
+    assert_eq!(arrays.deepest, MAX_LEVEL);
+}
+
+/// Arrays of many lists, maps or arrays: the writer keeps the sizes of 256 compounds, and goes over larger tables once more.
+#[test]
+fn long_arrays() {
+    let mut chance = Chance(0x00af_5a17_9a6e_d006);
+    for round in 0..100 {
+        let count = if round < 50 { 250 + chance.below(12) } else { chance.below(3_000) };
+        let kind = chance.kind(2, true, true);
+        let table = Table::build(|t| {
+            t.array(|t| (0..count).for_each(|_| chance.put(t, kind, 4)));
+        });
+        assert_eq!(table.root().map(|root| root.count()), Some(count));
+        let bytes = table.to_bytes().unwrap();
+        assert_eq!(table.size(), Ok(bytes.len()));
+        assert_eq!(Table::from_bytes(&bytes), Ok(table));
+    }
 }
 
 #[test]
@@ -219,6 +280,47 @@ fn bytes_by_chance() {
     }
     assert!(accepted > 1000, "{accepted}");
     assert!([4, 9, 10, 11, 12].iter().all(|&number| refused[number] > 10), "{refused:?}");
+}
+
+/// What is wrong within an array, at any depth, is refused at the place of the outermost one.
+#[test]
+fn damaged_arrays() {
+    let mut chance = Chance(0x00af_5a17_9a6e_d005);
+    let (mut accepted, mut refused) = (0, [0u32; 15]);
+    for _ in 0..30_000 {
+        let depth = chance.below(3).min(1) * chance.below(MAX_LEVEL - 2);
+        let array = Table::build(|t| {
+            t.array(|t| {
+                let kind = chance.kind(3, depth > 0, true);
+                (0..=chance.below(3)).for_each(|_| chance.down(t, kind, depth, 3));
+            });
+        });
+        let list = Table::build(|t| {
+            t.list(|t| {
+                t.null().table(&array);
+            });
+        });
+        let mut bytes = list.to_bytes().unwrap();
+        let start = bytes.len() - array.size().unwrap();
+        // Behind its code, its size and its count.
+        let body = start + if bytes[start] == 0xe0 { 3 } else { 9 };
+        for _ in 0..=chance.below(3) {
+            let at = body + chance.below(bytes.len() - body);
+            bytes[at] = chance.word() as u8;
+        }
+        match measure(&bytes) {
+            Ok(extent) => {
+                accepted += 1;
+                assert_eq!(extent.length, bytes.len());
+            }
+            Err(refusal) => {
+                refused[usize::from(refusal.number)] += 1;
+                assert_eq!(refusal.offset(), Some(start as u64), "{refusal} of {bytes:x?}");
+            }
+        }
+    }
+    assert!(accepted > 1000, "{accepted}");
+    assert!([3, 4, 9, 10, 11, 12].iter().all(|&number| refused[number] > 0), "{refused:?}");
 }
 
 /// Words and text by chance: no panic, writing as sizing says, and looking into the table is always possible.

@@ -42,13 +42,32 @@ fn too_deep_3() {
     let words: Vec<u64> = [0xd0, 1].repeat(33);
     writing(&words, &[], Reason::TooDeep, 32);
     reading(&[0; 32], Reason::TooDeep, 32);
+    // Arrays, one in the other; and a list with a child as the last of them.
+    let mut words: Vec<u64> = [0xf0, 1].repeat(33);
+    writing(&words, &[], Reason::TooDeep, 32);
+    words.splice(62.., [0xd0, 1, 0x40, 0]);
+    writing(&words, &[], Reason::TooDeep, 32);
+    // An array at level 31, whose element says that it has a child. None is there, and the level comes first.
+    for code in [0xc0, 0xe0] {
+        let bytes: Vec<u8> = [0; 30].into_iter().chain([0xe0, 0x04, 0x01, code, 0x01, 0x01]).collect();
+        reading(&bytes, Reason::TooDeep, 30);
+    }
 }
 
 #[test]
 fn element_unfit_4() {
     writing(&[0xf0, 1, 0x40, 0], &[], Reason::ElementUnfit, 1);
     writing(&[0xf0, 2, 0x70, 0, 0x71, 0], &[], Reason::ElementUnfit, 2);
-    reading(&[0xe0, 0x02, 0x01, 0x40], Reason::ElementUnfit, 0);
+    // Unlike the first; described; and within elements that are arrays or lists, where each array has its own first.
+    writing(&[0xf0, 2, 0xd0, 0, 0xd1, 0], &[], Reason::ElementUnfit, 2);
+    writing(&[0xf0, 1, 0x00, 2, 0x40, 0, 0x40, 0], &[], Reason::ElementUnfit, 1);
+    writing(&[0xf0, 2, 0xf0, 1, 0x50, 5, 0xf0, 2, 0x56, 1, 0x50, 0], &[], Reason::ElementUnfit, 5);
+    writing(&[0xf0, 1, 0xd0, 1, 0xf0, 1, 0x40, 0], &[], Reason::ElementUnfit, 3);
+    for code in (0x40..=0x45).chain([0x00]) {
+        reading(&[0xe0, 0x02, 0x01, code], Reason::ElementUnfit, 0);
+        reading(&[0xe0, 0x02, 0x00, code], Reason::ElementUnfit, 0);
+        reading(&[0xe0, 0x05, 0x01, 0xe0, 0x02, 0x01, code], Reason::ElementUnfit, 0);
+    }
     reading(&[0xc0, 0x06, 0x01, 0xe0, 0x03, 0x00, 0x40, 0x40], Reason::ElementUnfit, 3);
 }
 
@@ -115,12 +134,18 @@ fn input_short_9() {
     reading(&[0xc0, 0x02, 0x01, 0x50, 0x07], Reason::InputShort, 3);
     // A count of four thousand million over a body of two bytes.
     reading(&[0xd0, 0, 0, 0, 6, 0xee, 0x6b, 0x28, 0, 0x40, 0x40], Reason::InputShort, 11);
+    // An array's element that is longer than the array's body, and one that misses its child: at the array.
+    reading(&[0xc0, 0x08, 0x02, 0x40, 0xe0, 0x04, 0x01, 0xc0, 0x02, 0x00, 0x40], Reason::InputShort, 4);
+    reading(&[0xc0, 0x07, 0x02, 0x40, 0xe0, 0x04, 0x01, 0xc0, 0x01, 0x01], Reason::InputShort, 4);
 }
 
 #[test]
 fn code_unknown_10() {
     reading(&[0x46], Reason::CodeUnknown, 0);
     reading(&[0x00, 0x40, 0xff], Reason::CodeUnknown, 2);
+    // In an array's element, and before what is wrong with the next element: its size.
+    reading(&[0xc0, 0x09, 0x02, 0x40, 0xe0, 0x05, 0x01, 0xc0, 0x02, 0x01, 0x46], Reason::CodeUnknown, 4);
+    reading(&[0xe0, 0x07, 0x02, 0xc0, 0x02, 0x01, 0x46, 0x05, 0x01], Reason::CodeUnknown, 0);
 }
 
 #[test]
@@ -129,6 +154,9 @@ fn payload_bad_11() {
     reading(&[0x73, 0, 0, 0xd8, 0], Reason::PayloadBad, 0);
     reading(&[0xc0, 0x04, 0x01, 0xa1, 0x01, 0xc3], Reason::PayloadBad, 3);
     reading(&[0xa3, 0x01, 0x80], Reason::PayloadBad, 0);
+    // In an array in a list in an array, and in an array in an array in a list: at the outermost array.
+    reading(&[0xe0, 0x0a, 0x01, 0xc0, 0x07, 0x02, 0x40, 0xe0, 0x03, 0x01, 0x56, 0x02], Reason::PayloadBad, 0);
+    reading(&[0xc0, 0x09, 0x01, 0xe0, 0x06, 0x01, 0xe0, 0x03, 0x01, 0x56, 0x02], Reason::PayloadBad, 3);
 }
 
 #[test]
@@ -137,6 +165,10 @@ fn size_amiss_12() {
     reading(&[0xd0, 0, 0, 0, 3], Reason::SizeAmiss, 0);
     reading(&[0x00, 0x40, 0xc1, 0x02, 0x01, 0x40], Reason::SizeAmiss, 2);
     reading(&[0xc0, 0x03, 0x01, 0x45, 0x45], Reason::SizeAmiss, 0);
+    // In an array's element: a size below its count field, an odd map, a byte left.
+    reading(&[0x00, 0x40, 0xe0, 0x04, 0x01, 0xc0, 0x00, 0x00], Reason::SizeAmiss, 2);
+    reading(&[0x00, 0x40, 0xe0, 0x05, 0x01, 0xc1, 0x02, 0x01, 0x40], Reason::SizeAmiss, 2);
+    reading(&[0x00, 0x40, 0xe0, 0x06, 0x01, 0xc0, 0x03, 0x01, 0x40, 0x40], Reason::SizeAmiss, 2);
 }
 
 #[test]

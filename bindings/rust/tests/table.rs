@@ -1,5 +1,8 @@
 //! Tables: put together, looked into, printed; and the walker.
-use afsungar::{read, values, Builder, Extent, Kind, Mismatch, Reason, Refusal, Table, Value, Walker};
+use std::fs;
+use std::path::Path;
+
+use afsungar::{read, values, Builder, Extent, Kind, Mismatch, Reason, Refusal, Row, Table, Value, Walker};
 
 fn all_kinds() -> Table {
     Table::build(|t| {
@@ -104,7 +107,7 @@ fn rows_from_values() {
 
 #[test]
 fn children() {
-    fn count(row: afsungar::Row<'_>) -> usize {
+    fn count(row: Row<'_>) -> usize {
         1 + row.children().map(count).sum::<usize>()
     }
     let table = all_kinds();
@@ -115,6 +118,93 @@ fn children() {
     let within: Vec<_> = map.children().map(|row| row.value().unwrap()).collect();
     assert_eq!(within, [Value::Symbol("left"), Value::List(2), Value::Null, Value::Described]);
     assert_eq!(map.children().last().unwrap().children().last().unwrap().count(), 3);
+}
+
+/// An array of lists, one of maps and one of arrays, put together item by item.
+fn item_by_item() -> Table {
+    Table::build(|t| {
+        t.list(|t| {
+            t.array(|t| {
+                for (size, across) in [("Ø1.2", 35), ("M4", -12)] {
+                    t.list(|t| {
+                        t.string(size).int(across);
+                    });
+                }
+            });
+            t.array(|t| {
+                t.map(|t| {
+                    t.symbol("left").uint(2).symbol("right").uint(1);
+                });
+                t.map(|_| {});
+            });
+            t.array(|t| {
+                t.array_of([1u8, 2]).array(|_| {}).array_of([3u8]);
+            });
+        });
+    })
+}
+
+/// What the children of each child hold.
+fn held(row: Row<'_>) -> Vec<Vec<Value<'_>>> {
+    row.children().map(|child| child.child_values().unwrap()).collect()
+}
+
+#[test]
+fn arrays_of_lists_maps_and_arrays() {
+    let table = Table::build(|t| {
+        t.list(|t| {
+            t.array_of_lists([("Ø1.2", 35), ("M4", -12)].map(|(size, across)| [Value::from(size), across.into()]));
+            t.array_of_maps([vec![(Value::Symbol("left"), 2u32), (Value::Symbol("right"), 1)], vec![]]);
+            t.array_of_arrays([vec![1u8, 2], vec![], vec![3]]);
+        });
+    });
+    assert_eq!(table, item_by_item());
+    let bytes = table.to_bytes().unwrap();
+    let again = Table::from_bytes(&bytes).unwrap();
+    assert_eq!(again, table);
+    assert_eq!(again.to_bytes(), Ok(bytes));
+
+    let counts = |row: Row<'_>| row.children().map(|child| child.count()).collect::<Vec<_>>();
+    let arrays: Vec<Row<'_>> = again.root().unwrap().children().collect();
+    let [lists, maps, arrays] = arrays[..] else { panic!("{arrays:?}") };
+    assert_eq!((counts(lists), counts(maps), counts(arrays)), (vec![2, 2], vec![4, 0], vec![2, 0, 1]));
+    assert_eq!(
+        held(lists),
+        [[Value::String("Ø1.2"), Value::Int(35)], [Value::String("M4"), Value::Int(-12)]].map(Vec::from)
+    );
+    assert_eq!(
+        held(maps),
+        [vec![Value::Symbol("left"), Value::Uint(2), Value::Symbol("right"), Value::Uint(1)], vec![]]
+    );
+    assert_eq!(held(arrays), [vec![Value::Ubyte(1), Value::Ubyte(2)], vec![], vec![Value::Ubyte(3)]]);
+}
+
+#[test]
+fn tables_as_elements() {
+    // A table that is a list counts as one element, as does a list that says how many values come next.
+    let part = all_kinds();
+    let array = Table::build(|t| {
+        t.array(|t| {
+            t.table(&part).list(|_| {}).table(&part);
+            t.push(Value::List(1)).array_of_lists([[part.len() as u64]]);
+        });
+    });
+    assert_eq!(array.root().map(|root| root.count()), Some(4));
+    assert_eq!(Table::from_bytes(&array.to_bytes().unwrap()), Ok(array));
+}
+
+#[test]
+fn elements() {
+    for kind in Kind::ALL {
+        let text = vec![0; if matches!(kind, Kind::Decimal128 | Kind::Uuid) { 16 } else { 0 }];
+        let array = Table::build(|t| {
+            t.array(|t| {
+                t.row(kind.code(), 0, &text);
+            });
+        });
+        let due = Refusal::writing(Reason::ElementUnfit, 1);
+        assert_eq!(array.size().err(), (!kind.is_element()).then_some(due), "{kind}");
+    }
 }
 
 #[test]
@@ -306,6 +396,33 @@ fn printed() {
     );
 }
 
+/// examples/order.amqp has the bytes of this order and examples/order.txt its listing. Outside the repository there is neither.
+#[test]
+fn the_order() {
+    let order = Table::build(|t| {
+        t.described(|t| {
+            t.symbol("afsungar:order:list").list(|t| {
+                t.ulong(4711).timestamp(1_763_164_800_000).symbol("ear-shell").string("Ø1.2");
+                t.array_of(["Ø1.2", "Ø1.3", "M4"]);
+                t.map_of([(Value::Symbol("left"), 2u32), (Value::Symbol("right"), 1)]);
+                t.map(|t| {
+                    let vent = |size, across, up| [Value::String(size), Value::Int(across), Value::Int(up)];
+                    t.symbol("left").array_of_lists([vent("Ø1.2", 35, -12), vent("Ø1.3", 48, 7)]);
+                    t.symbol("right").array_of_lists([vent("Ø1.2", -35, -12)]);
+                });
+            });
+        });
+    });
+    let bytes = order.to_bytes().unwrap();
+    assert_eq!(bytes.len(), 190);
+    assert_eq!(Table::from_bytes(&bytes).as_ref(), Ok(&order));
+    let folder = Path::new(env!("CARGO_MANIFEST_DIR")).join("../../examples");
+    if folder.is_dir() {
+        assert_eq!(fs::read(folder.join("order.amqp")).unwrap(), bytes);
+        assert_eq!(fs::read_to_string(folder.join("order.txt")).unwrap(), format!("{order}end {}\n", bytes.len()));
+    }
+}
+
 #[test]
 fn tables_with_other_text_are_others() {
     let table = |text: &str| {
@@ -347,6 +464,9 @@ fn short_and_wide_forms_are_read_alike() {
     assert!(list.iter().all(|bytes| Table::from_bytes(bytes) == Ok(Table::from(Value::List(0)))));
     let element = [0xe0, 0x03, 0x01, 0x54, 0x80];
     assert_eq!(Table::from_bytes(&element).unwrap().values(), Ok(vec![Value::Array(1), Value::Int(-128)]));
+    let two: Table = [Value::Array(2), Value::List(0), Value::List(0)].into_iter().collect();
+    assert_eq!(Table::from_bytes(&[0xe0, 0x06, 0x02, 0xc0, 0x01, 0x00, 0x01, 0x00]), Ok(two.clone()));
+    assert_eq!(Table::from_bytes(&two.to_bytes().unwrap()), Ok(two));
     // A text of 255 bytes is read in the one-byte form, and written in the other.
     let text: Vec<u8> = [0xa1, 255].into_iter().chain([b'x'; 255]).collect();
     let table = Table::from_bytes(&text).unwrap();

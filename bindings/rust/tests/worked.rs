@@ -1,5 +1,5 @@
 //! The worked examples of docs/FORMAT.md, 10.
-use afsungar::{measure, read_to_table, Builder, Extent, Reason, Refusal, Table};
+use afsungar::{measure, read_to_table, Builder, Extent, Reason, Refusal, Table, Value};
 
 /// Two hex digits a byte; spaces do not count.
 fn hex(digits: &str) -> Vec<u8> {
@@ -80,6 +80,48 @@ fn array_of_string() {
 }
 
 #[test]
+fn array_of_lists() {
+    let bytes = "e0 17 02 d0 00 00 00 06 00 00 00 01 52 01 00 00 00 07 00 00 00 02 52 02 43";
+    written(&[0xf0, 2, 0xd0, 1, 0x70, 1, 0xd0, 2, 0x70, 2, 0x70, 0], "", bytes, |t| {
+        t.array_of_lists([vec![1u32], vec![2, 0]]);
+    });
+    let bytes = "e0 1b 03 d0 00 00 00 04 00 00 00 00 00 00 00 05 00 00 00 01 40 00 00 00 04 00 00 00 00";
+    written(&[0xf0, 3, 0xd0, 0, 0xd0, 1, 0x40, 0, 0xd0, 0], "", bytes, |t| {
+        t.array_of_lists([vec![], vec![()], vec![]]);
+    });
+    // A list within an element has a code of its own, and the short form.
+    let bytes = "e0 0e 01 d0 00 00 00 08 00 00 00 01 c0 02 01 40";
+    written(&[0xf0, 1, 0xd0, 1, 0xd0, 1, 0x40, 0], "", bytes, |t| {
+        t.array(|t| {
+            t.list(|t| {
+                t.list_of([()]);
+            });
+        });
+    });
+}
+
+#[test]
+fn array_of_maps() {
+    let bytes = "e0 17 02 d1 00 00 00 09 00 00 00 02 a3 01 76 52 02 00 00 00 04 00 00 00 00";
+    written(&[0xf0, 2, 0xd1, 2, 0xb3, 1, 0x70, 2, 0xd1, 0], "76", bytes, |t| {
+        t.array_of_maps([vec![(Value::Symbol("v"), 2u32)], vec![]]);
+    });
+}
+
+#[test]
+fn array_of_arrays() {
+    let bytes = "e0 17 02 f0 00 00 00 06 00 00 00 01 50 05 00 00 00 07 00 00 00 02 56 01 00";
+    written(&[0xf0, 2, 0xf0, 1, 0x50, 5, 0xf0, 2, 0x56, 1, 0x56, 0], "", bytes, |t| {
+        t.array(|t| {
+            t.array_of([5u8]).array_of([true, false]);
+        });
+    });
+    written(&[0xf0, 2, 0xf0, 0, 0xf0, 0], "", "e0 12 02 f0 00 00 00 04 00 00 00 00 00 00 00 04 00 00 00 00", |t| {
+        t.array_of_arrays([[0u8; 0]; 2]);
+    });
+}
+
+#[test]
 fn described_empty_list() {
     written(&[0, 2, 0x80, 36, 0xd0, 0], "", "00 53 24 45", |t| {
         t.described(|t| {
@@ -109,6 +151,28 @@ fn lists_in_lists() {
     // The same in bytes: the 33rd list is at offset 96.
     let bytes: Vec<u8> = (0..32).rev().flat_map(|n| [0xc0, 3 * n + 2, 1]).chain([0x45]).collect();
     assert_eq!(measure(&bytes), Err(Refusal::reading(Reason::TooDeep, 96)));
+}
+
+fn arrays(t: &mut Builder, levels: usize) {
+    t.array(|t| {
+        if levels > 1 {
+            arrays(t, levels - 1);
+        }
+    });
+}
+
+#[test]
+fn arrays_in_arrays() {
+    let table = Table::build(|t| arrays(t, 32));
+    let bytes = table.to_bytes().unwrap();
+    assert_eq!(bytes.len(), 288);
+    assert_eq!(Table::from_bytes(&bytes), Ok(table));
+
+    let table = Table::build(|t| arrays(t, 33));
+    assert_eq!(table.to_bytes(), Err(Refusal::writing(Reason::TooDeep, 32)));
+    // The same in bytes, the short form throughout: too deep at the outermost array.
+    let bytes: Vec<u8> = (0..33).rev().flat_map(|n| [0xe0, 3 * n + 1, u8::from(n > 0)]).collect();
+    assert_eq!(measure(&bytes), Err(Refusal::reading(Reason::TooDeep, 0)));
 }
 
 #[test]
@@ -141,6 +205,17 @@ fn the_widths_of_an_array() {
     .unwrap();
     assert_eq!(wide[..10], hex("f0 00 00 01 03 00 00 00 fe 50"));
     assert_eq!(wide.len(), 5 + 259);
+
+    // The same with a list as the element: its code, its size and its count, and a binary of its own code.
+    let list = |length| {
+        Table::build(|t| {
+            t.array_of_lists([[&vec![7u8; length]]]);
+        })
+        .to_bytes()
+        .unwrap()
+    };
+    assert_eq!(list(243)[..14], hex("e0 ff 01 d0 00 00 00 f9 00 00 00 01 a0 f3"));
+    assert_eq!(list(244)[..20], hex("f0 00 00 01 03 00 00 00 01 d0 00 00 00 fa 00 00 00 01 a0 f4"));
 }
 
 #[test]
@@ -159,6 +234,12 @@ fn read() {
     refused("c0 05 01 40", Reason::InputShort, 0);
     refused("c1 02 01 40", Reason::SizeAmiss, 0);
     refused("e0 02 01 40", Reason::ElementUnfit, 0);
+    refused("e0 02 01 45", Reason::ElementUnfit, 0);
+    refused("e0 05 01 c0 02 01 46", Reason::CodeUnknown, 0);
+    refused("e0 05 01 c1 02 01 40", Reason::SizeAmiss, 0);
+    refused("e0 06 01 c0 03 01 40 40", Reason::SizeAmiss, 0);
+    refused("e0 04 01 c0 02 00 40", Reason::InputShort, 0);
+    refused("c0 09 01 e0 06 01 e0 03 01 56 02", Reason::PayloadBad, 3);
 
     assert_eq!(measure(&hex("40 40")), Ok(Extent { length: 1, rows: 1, text: 0 }));
     assert_eq!(
@@ -172,6 +253,12 @@ fn read() {
         read_to_table(&hex("e0 02 00 70")),
         Ok(Table::build(|t| {
             t.array(|_| {});
+        }))
+    );
+    assert_eq!(
+        read_to_table(&hex("e0 07 02 c0 02 01 40 01 00")),
+        Ok(Table::build(|t| {
+            t.array_of_lists([vec![()], vec![]]);
         }))
     );
 }
