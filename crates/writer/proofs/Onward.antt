@@ -22,10 +22,10 @@ use Rattle.standard.specs.Facts.{T-true, if-case}
 use Rattle.laws.specs.Numbers.{length-be}
 use Rattle.laws.specs.Stores.{sets-append}
 use Rattle.standard.proofs.Lookup.{Rest}
-use Rattle.writer.specs.Heads.{head, itemWidth, bodyOf, Mode, values, elements, modeOf, headIn, written*}
+use Rattle.writer.specs.Heads.{head, itemWidth, bodyOf, Mode, values, elements, modeIs, modeOf, headIn, written*}
 use Rattle.writer.specs.Direct.{numberHead}
 use Rattle.writer.specs.Marks.{markWidth, marks, marks*}
-use Rattle.writer.specs.Marking.{boxes, boxWidth, modeIs, kindOn, numberOn, bare, due, startOn, placeOn, leftOn, elementsOn, fromStart, beyond, closed, taken, stacked, Ready, Complete, Markable}
+use Rattle.writer.specs.Marking.{boxes, boxWidth, kindOn, numberOn, bare, due, startOn, placeOn, leftOn, elementsOn, fromStart, beyond, closed, taken, stacked, Ready, Complete, Markable}
 use Rattle.writer.specs.declared.marking.Point.{Point}
 use Rattle.writer.proofs.Tabled.{kindsOnto, other}
 use Rattle.writer.proofs.Bodies.{enclosed-width, item-wide, item-short, head-short, kind-small}

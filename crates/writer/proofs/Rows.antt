@@ -20,10 +20,10 @@ use Rattle.laws.specs.Bounds.{rows*-length}
 use Rattle.laws.specs.Numbers.{length-be, unbe-be}
 use Rattle.laws.specs.Stores.{sets-append, put-on}
 use Rattle.laws.specs.Written.{no-children, form-some, item-form, well-formed}
-use Rattle.writer.specs.Heads.{head, itemHead, itemWidth, bodyOf, Mode, values, elements, modeOf, headIn, written}
+use Rattle.writer.specs.Heads.{head, itemHead, itemWidth, bodyOf, Mode, values, elements, modeIs, modeOf, headIn, written}
 use Rattle.writer.specs.Marks.{markWidth, marks, marks*}
 use Rattle.writer.specs.Sizing.{sizeIn, openHead, headSize}
-use Rattle.writer.specs.Filling.{fresh, coded, beyond, kindAt, numberAt, lettersAt, markAt, ownAt, isBoxed, modeIs, Ready, Stepped, Items, Pending, Filled, valueOf, elementOf, One, Done, Elements, Lasts, Rows, Fillable}
+use Rattle.writer.specs.Filling.{fresh, coded, beyond, kindAt, numberAt, lettersAt, markAt, ownAt, isBoxed, Ready, Stepped, Items, Pending, Filled, valueOf, elementOf, One, Done, Elements, Lasts, Rows, Fillable}
 use Rattle.writer.specs.declared.filling.Cursor.{Cursor}
 use Rattle.writer.proofs.Tabled.{allKinds, of-kind}
 use Rattle.writer.proofs.Bodies.{empty-body, kind-small}

@@ -78,10 +78,6 @@ isBoxed (mapped s) = true
 isBoxed (arrayed s) = true
 isBoxed describing = false
 
-abbrev pub modeIs : (nested : Bool) → Mode
-modeIs true = elements
-modeIs false = values
-
 -- Several
 
 -- elements of an array, all of kind k

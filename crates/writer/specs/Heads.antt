@@ -2,6 +2,7 @@
 -- `compact-head` and `wide-head` of proofs/Bodies.antt say that a value and an element are their head, their text and their body.
 use Prim.Native.Nat.{ℕ, _+_}
 use mathlib.Core.List.{List, [], _∷_, _++_}
+use mathlib.Core.Bool.{Bool, true, false}
 use lib.Dec.{eqb, ltb}
 use Rattle.standard.specs.Choose.{if}
 use Rattle.standard.specs.Bytes.{be}
@@ -69,6 +70,10 @@ headIs h = fields (h .code) (h .width) (h .number) (h .«count_width») (h .coun
 -- Rows are values, with codes of their own, or elements of an array
 pub data Mode : Type 0 where
   values elements : Mode
+
+abbrev pub modeIs : (isElement : Bool) → Mode
+modeIs true = elements
+modeIs false = values
 
 unfoldable pub modeOf : Spot → Mode
 modeOf any = values

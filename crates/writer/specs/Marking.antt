@@ -13,7 +13,7 @@ use Rattle.standard.specs.Kinds.{Style, styleOf}
 use Rattle.standard.specs.Table.{most, any, letters, Valid}
 use Rattle.standard.specs.Encode.{shortEnd, encode}
 use Rattle.standard.specs.Outcomes.{levelMost}
-use Rattle.writer.specs.Heads.{Mode, values, elements, headIn}
+use Rattle.writer.specs.Heads.{Mode, values, elements, modeIs, headIn}
 use Rattle.writer.specs.Marks.{markWidth, marks}
 use Rattle.writer.specs.declared.marking.Point.{Point}
 
@@ -25,9 +25,6 @@ boxes s n = ltb 0 (markWidth s 1) && ltb 0 n
 unfoldable pub boxWidth : Mode → (body : ℕ) → ℕ
 boxWidth values b = if (ltb b shortEnd) 3 9
 boxWidth elements b = 8
-
-abbrev pub modeIs : (elements : Bool) → Mode
-modeIs b = if b elements values
 
 -- The row at a point
 

@@ -12,7 +12,8 @@ use lib.ListN.{length}
 use lib.Seq.{sets}
 use Rattle.standard.specs.Tree.{Trees, none}
 use Rattle.standard.specs.Encode.{encode*, payloads}
-use Rattle.writer.specs.Filling.{modeIs, beyond, Ready, Stepped, Rows}
+use Rattle.writer.specs.Heads.{modeIs}
+use Rattle.writer.specs.Filling.{beyond, Ready, Stepped, Rows}
 use Rattle.writer.specs.declared.filling.Cursor.{Cursor}
 use Rattle.writer.proofs.Rows.{boxed-array, one-ready, ArrayIn, array-in, items-kind, rows-of, has-elements, Going, rows-due, row-there, whole-turn, element-turn, value-turn, last-room, finished}
 use Rattle.writer.proofs.filling.fill_array.Reads as fill-array
