@@ -12,6 +12,7 @@ from form import bytes_field, bytes_of, cases_in, refusal_field, words_of
 
 MOST = 1_048_576        # 2.7
 LEVELS = 32             # 2.5
+TOLD = 2 ** 32          # 2.6: an array's number is its count plus so many times its element kind
 
 DESCRIBED, NULL, BOOLEAN, UINT, INT, CHAR, ULONG, LONG = 0x00, 0x40, 0x56, 0x70, 0x71, 0x73, 0x80, 0x81
 STRING, SYMBOL, LIST, MAP, ARRAY = 0xb1, 0xb3, 0xd0, 0xd1, 0xf0
@@ -23,6 +24,8 @@ TEXTS = {0xb0: 0xa0, STRING: 0xa1, SYMBOL: 0xa3}                    # with the c
 COMPOUNDS = {LIST: 0xc0, MAP: 0xc1, ARRAY: 0xe0}
 KINDS = {DESCRIBED, *WIDTHS, *BLOBS, *TEXTS, *COMPOUNDS}
 ELEMENTS = KINDS - {NULL, DESCRIBED}                                # 2.6
+NOT_TOLD = 0                                                        # 2.6: in place of an element kind, from the reader alone
+UNFIT = KINDS - ELEMENTS - {NOT_TOLD}
 
 # 4.6: the bytes that may stand first, and those that may then stand second; all further ones are 80 to bf
 SEQUENCES = [
@@ -55,8 +58,13 @@ def is_utf8(text):
     return True
 
 
+def told(number):
+    """The count and the element kind that an array's number tells (2.6)."""
+    return number % TOLD, number // TOLD
+
+
 def number_allowed(kind, number):
-    """2.3 and 2.7."""
+    """2.3, 2.6 and 2.7."""
     if kind == DESCRIBED:
         return number == 2
     if kind in BLOBS:
@@ -65,6 +73,9 @@ def number_allowed(kind, number):
         surrogate = kind == CHAR and 0xd800 <= number <= 0xdfff
         most = {BOOLEAN: 1, CHAR: 0x10ffff}.get(kind, 256 ** WIDTHS[kind] - 1)
         return number <= most and not surrogate
+    if kind == ARRAY:
+        count, element = told(number)
+        return count <= MOST and element in ELEMENTS
     return number <= MOST and (kind != MAP or number % 2 == 0)
 
 
@@ -81,8 +92,8 @@ class Table:
     def __init__(self, words, text):
         self.words, self.text, self.row, self.used = words, text, 0, 0
 
-    def take(self, level, elements):
-        """The next row's kind, number and text. `elements` is None outside arrays, else the kinds allowed there (5.2)."""
+    def take(self, level, element):
+        """The next row's kind, number and text. `element` is None outside arrays, else the kind that the array tells (5.2)."""
         place = self.row
         if 2 * place == len(self.words):
             raise Refused(1, place)
@@ -91,7 +102,9 @@ class Table:
             raise Refused(2, place)
         if level > LEVELS:
             raise Refused(3, place)
-        if elements is not None and kind not in elements:
+        if element is not None and kind != element:
+            raise Refused(4, place)
+        if kind == ARRAY and told(number)[1] in UNFIT:
             raise Refused(4, place)
         if not number_allowed(kind, number):
             raise Refused(5, place)
@@ -108,27 +121,23 @@ class Table:
         if kind == DESCRIBED:
             return b'\0' + self.value(level + 1) + self.value(level + 1)
         if kind in COMPOUNDS:
-            return enclosed(kind, number, self.body(kind, number, level + 1))
+            return enclosed(kind, *self.body(kind, number, level + 1))
         if kind in TEXTS:
             short = number <= 254
             return bytes([TEXTS[kind] if short else kind]) + number.to_bytes(1 if short else 4, 'big') + text
         return written_number(kind, number) + text
 
-    def body(self, kind, count, level):
-        """The body of a list, map or array: values (3.5), or the element code and then payloads (3.6)."""
+    def body(self, kind, number, level):
+        """The count and the body of a list, map or array: values (3.5), or the element code and then payloads (3.6)."""
         if kind != ARRAY:
-            return b''.join([self.value(level) for _ in range(count)])
-        body, allowed = [], ELEMENTS
-        for _ in range(count):
-            element, number, text = self.take(level, allowed)
-            allowed = {element}
-            body.append(self.payload(element, number, text, level))
-        return bytes([element]) + b''.join(body) if count else b''
+            return number, b''.join([self.value(level) for _ in range(number)])
+        count, element = told(number)
+        return count, bytes([element]) + b''.join([self.payload(*self.take(level, element), level) for _ in range(count)])
 
     def payload(self, kind, number, text, level):
         """What an element is written to behind the element code: always the full width (3.6)."""
         if kind in COMPOUNDS:
-            return wide_fields(number, self.body(kind, number, level + 1))
+            return wide_fields(*self.body(kind, number, level + 1))
         width = 4 if kind in TEXTS else WIDTHS.get(kind, 0)
         return number.to_bytes(width, 'big') + text
 

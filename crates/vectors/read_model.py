@@ -9,7 +9,7 @@ import sys
 
 sys.dont_write_bytecode = True
 from form import bytes_field, bytes_of, cases_in, refusal_field, words_field
-from model import LEVELS, Refused, number_allowed, text_allowed
+from model import LEVELS, NOT_TOLD, Refused, TOLD, number_allowed, text_allowed
 
 # 4.1: code, kind, layout and its number
 CODES = {
@@ -97,14 +97,15 @@ def compound(data, width, kind, place, at, end, level, outer):
 
 
 def array(data, width, kind, place, at, end, level):
-    """All that an array holds, however deep, is refused at its place, or at that of the outermost array around it."""
+    """The row tells the kind of the element code, whichever of its forms the code is. All that an array holds, however deep, is refused at its place,
+    or at that of the outermost array around it."""
     count, first, last = fields(data, width, place, at, end)
     if count and level == LEVELS:
         raise Refused(3, place)
     if first == last:
         if count:
             raise Refused(9, place)
-        return Value([(kind, 0)], b'', last)
+        return Value([(kind, TOLD * NOT_TOLD)], b'', last)
     code = data[first]
     if code not in CODES:
         raise Refused(10, place)
@@ -113,7 +114,7 @@ def array(data, width, kind, place, at, end, level):
     items = several(lambda start: payload(data, code, place, start, last, level + 1, place), count, first + 1)
     if items.end != last:
         raise Refused(12, place)
-    return Value([(kind, count)] + items.rows, items.text, last)
+    return Value([(kind, count + TOLD * CODES[code][0])] + items.rows, items.text, last)
 
 
 def payload(data, code, place, at, end, level, outer):

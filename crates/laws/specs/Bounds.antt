@@ -1,14 +1,32 @@
--- What is read has no more rows, and no more bytes of text, than it has bytes.
+-- What is read has no more rows, and no more bytes of text, than it has bytes; and its kinds are bytes.
 use Prim.Native.Nat.{ℕ, zero, suc, _+_, _*_, _≤_, _<_}
 use mathlib.Core.Path.{_≡_, refl}
 use mathlib.Core.List.{List, [], _∷_, _++_}
+use mathlib.Core.Bool.{Bool, true, _&&_}
 use native.Mathlib.Omega.{arith}
-use lib.Dec.{T, leb, leb→le}
+use lib.Dec.{T, eqb, leb, leb→le, ltb, ltb→lt}
 use lib.ListN.{length, length-append}
+use Rattle.standard.specs.Choose.{lookup}
 use Rattle.standard.specs.Tree.{Tree, node, Trees, none, more, rows, rows*, text, text*, tall, tall*}
-use Rattle.standard.specs.Codes.{Scalar, Layout, layoutOf, filled, element}
+use Rattle.standard.specs.Codes.{Scalar, Layout, Entry, codes, entryOf, layoutOf, kindOf, filled, element}
 use Rattle.standard.specs.Kinds.{named}
 use Rattle.standard.specs.Grammar.{Plain, constant′, whole′, small′, raw′, sized′, Many, none′, more′, leaf′, Fields, fields′, Coded, coded′, Items, empty′, items′, Shape, scalar′, described′, compound′, array′, Payload, Formed}
+use Rattle.standard.specs.Facts.{and-left, and-right, if-case}
+
+-- the kind of every code is a byte: a test of the whole table
+bytesIn : List Entry → Bool
+bytesIn [] = true
+bytesIn (e ∷ es) = ltb (e .kind) 256 && bytesIn es
+
+found-byte : (x : Entry) (c : ℕ) (es : List Entry) → x .kind < 256 → T (bytesIn es) → lookup (λ e. e .code) x c es .kind < 256
+unfolding lookup bytesIn
+found-byte x c [] h t = h
+found-byte x c (e ∷ es) h t =
+    if-case (λ (z : Entry). z .kind < 256) (eqb c (e .code)) e (lookup (λ e. e .code) x c es) (λ u. ltb→lt (e .kind) 256 (and-left (ltb (e .kind) 256) (bytesIn es) t)) (λ u. found-byte x c es h (and-right (ltb (e .kind) 256) (bytesIn es) t))
+
+pub kind-byte : (c : ℕ) → kindOf c < 256
+unfolding entryOf codes bytesIn
+kind-byte c = found-byte _ c codes (omega arith) tt
 
 -- two words to a row
 mutual

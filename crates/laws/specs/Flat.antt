@@ -6,7 +6,7 @@ use mathlib.Core.List.{List, [], _∷_, _++_}
 use lib.Dec.{ltb}
 use lib.ListN.{length}
 use Rattle.standard.specs.Answer.{Answer, got, refuse, at, _>>=_, _>>_, need}
-use Rattle.standard.specs.Codes.{Layout, unknown, described, scalar, compound, array, layoutOf, kindOf}
+use Rattle.standard.specs.Codes.{Layout, unknown, described, scalar, compound, array, layoutOf, kindOf, element}
 use Rattle.standard.specs.Kinds.{named}
 use Rattle.standard.specs.Read.{plain, fields}
 
@@ -35,11 +35,13 @@ pub record Step : Type 0 where
 abbrev pub row : ℕ → ℕ → List ℕ → ℕ → Head → List ℕ → Answer Step
 row k n t l h z = got (record { kind = k; number = n; text = t; children = l; head = h; rest = z })
 
--- a body with no elements is passed over; else its first byte is the elements' code
+-- the first byte of an array's body, if it has one, is the elements' code
 unfoldable pub opened : (kind count : ℕ) → (body rest : List ℕ) → Answer Step
-opened k zero b z = row k (named 0 0) [] 0 own z
+opened k n (e ∷ b) z = do
+  need (element (layoutOf e)) 0 (at 0)
+  row k (named n (kindOf e)) [] n (under e) (b ++ z)
+opened k zero [] z = row k (named 0 0) [] 0 own z
 opened k (suc n) [] z = refuse 0 (at 0)
-opened k (suc n) (e ∷ b) z = row k (suc n) [] (suc n) (under e) (b ++ z)
 
 unfoldable pub behindStep : (kind : ℕ) → List ℕ → Layout → Answer Step
 behindStep k r unknown = refuse 0 (at 0)

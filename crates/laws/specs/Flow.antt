@@ -9,9 +9,11 @@ use borrow.Author.Tests.{lt-ltb}
 use lib.ListN.{length}
 use Rattle.standard.specs.Answer.{got}
 use Rattle.standard.specs.Tree.{Tree, node, Trees, none, rows, rows*, text, text*, tall, tall*}
-use Rattle.standard.specs.Codes.{Layout, scalar, compound, layoutOf, kindOf}
+use Rattle.standard.specs.Codes.{Layout, scalar, compound, layoutOf, kindOf, element}
+use Rattle.standard.specs.Kinds.{named}
 use Rattle.standard.specs.Grammar.{Many, none′, more′, leaf′, Coded, coded′, Items, empty′, items′, Shape, scalar′, described′, compound′, array′, Payload, Form}
 use Rattle.standard.specs.Read.{front}
+use Rattle.standard.specs.Facts.{T-true}
 use Rattle.laws.specs.Complete.{plain-complete, fields-complete}
 use Rattle.laws.specs.Unique.{front-reads}
 use Rattle.laws.specs.Flat.{Head, own, under, Run, run, push, row, opened, behindStep, stepOf, flat}
@@ -60,14 +62,13 @@ module _ {P : ℕ → Tree → List ℕ → Type 0} (d l : ℕ) (f : (c : ℕ) (
   unfolding tall* rows* text* push
   leaf-flow h b z i k n t rs ts u e = node-flow d k h t b none n rs ts (omega arith) i (rw zero-add e)
 
-  body-flow : (h : Head) (b z : List ℕ) {a m : ℕ} (g : Head) (vs : Trees) (bs : List ℕ) → stepOf h b ≡ row a m [] m g (bs ++ z) → Flow* d l g m vs bs → Due d (suc l) h (node a m [] vs) z b
+  body-flow : (h : Head) (b z : List ℕ) {a x m : ℕ} (g : Head) (vs : Trees) (bs : List ℕ) → stepOf h b ≡ row a x [] m g (bs ++ z) → Flow* d l g m vs bs → Due d (suc l) h (node a x [] vs) z b
   body-flow h b z g vs bs i w k n t rs ts u e = node-flow d k h t b vs n rs ts (omega arith) i (w z n (push k h t) rs ts (omega (arith, push-length k h t)) e)
 
-  items-flow : (j : ℕ) (h : Head) (b z : List ℕ) {m o : ℕ} {vs : Trees} {bs : List ℕ} → stepOf h b ≡ opened j m bs z → Items P m o vs bs → Due d (suc l) h (node j m [] vs) z b
+  items-flow : (j : ℕ) (h : Head) (b z : List ℕ) {m o : ℕ} {vs : Trees} {bs : List ℕ} → stepOf h b ≡ opened j m bs z → Items P m o vs bs → Due d (suc l) h (node j (named m o) [] vs) z b
   unfolding opened
   items-flow j h b z i empty′ = leaf-flow h b z i
-  items-flow j h b z i (items′ {n = zero} g none′) = leaf-flow h b z i
-  items-flow j h b z i (items′ {n = suc m} {e = x} {vs = vs} {bs = bs} g ps) = body-flow h b z (under x) vs bs i (many-flow d l (under x) (item-flow x) ps)
+  items-flow j h b z i (items′ {e = x} {vs = vs} {bs = bs} g ps) = body-flow h b z (under x) vs bs (rw (T-true (element (layoutOf x)) g) at i) (many-flow d l (under x) (item-flow x) ps)
 
   shape-flow : {j : ℕ} {y : Layout} {v : Tree} {bs : List ℕ} → Shape P j y v bs → (h : Head) (z b : List ℕ) → stepOf h b ≡ behindStep j (bs ++ z) y → Due d (suc l) h v z b
   unfolding behindStep

@@ -11,8 +11,8 @@ use Rattle.standard.specs.Answer.{got, refuse, at, need, _>>=_, _>>_, tooLong}
 use Rattle.standard.specs.Choose.{lookup}
 use Rattle.standard.specs.Bytes.{be}
 use Rattle.standard.specs.Kinds.{kinds, styleOf, isKind, fair, flaw}
-use Rattle.standard.specs.Table.{most, allowed, ranged, letters, children, firstIn, next, letter, several, row, tree, spent, table}
-use Rattle.standard.specs.Encode.{shortEnd, encode, compact, headed}
+use Rattle.standard.specs.Table.{most, allowed, ranged, letters, children, naming, spotIn, letter, several, row, tree, spent, table}
+use Rattle.standard.specs.Encode.{shortEnd, encode, compact}
 use Rattle.standard.specs.Facts.{T-true}
 use Rattle.standard.specs.Outcomes.{levelMost, bytesOf, size}
 
@@ -25,7 +25,7 @@ dropped n x e = ap (drop n) (sym (append-nil x)) ∙ drop-at x [] n e
 
 -- a binary too long for the short form takes five bytes more than it has
 binary : (n : ℕ) (x : List ℕ) → length x ≡ n → leb n most ≡ true → ltb n shortEnd ≡ false → size levelMost (0xb0 ∷ n ∷ []) x ≡ _>>_ (need (leb (suc (suc (suc (suc (suc n))))) most) tooLong (at 0)) (got (suc (suc (suc (suc (suc n))))))
-unfolding size bytesOf table tree row several letter spent allowed ranged letters children firstIn next styleOf lookup kinds isKind fair flaw encode compact headed be
+unfolding size bytesOf table tree row several letter spent allowed ranged letters children naming spotIn styleOf lookup kinds isKind fair flaw encode compact be
 binary n x e m s = rw (m, T-true (leb n (length x)) (le→leb n (length x) (omega arith)), taken n x e, dropped n x e, s, e) (last (leb (suc (suc (suc (suc (suc n))))) most))
   where
     last : (b : Bool) → _>>=_ (_>>=_ (need b tooLong (at 0)) (λ u. got (0xb0 ∷ be 4 n ++ x))) (λ bs. got (length bs)) ≡ _>>_ (need b tooLong (at 0)) (got (suc (suc (suc (suc (suc n))))))

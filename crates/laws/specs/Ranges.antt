@@ -9,11 +9,11 @@ use lib.Dec.{T, eqb, leb}
 use lib.ListN.{length, drop, length-append}
 use Rattle.standard.specs.Answer.{Answer, got, refuse, Place, at, _>>=_, need, rowsAmiss, kindUnknown, tooDeep, elementUnfit, numberOutside, textAmiss, tooLong, outputShort, inputShort, codeUnknown, payloadBad, sizeAmiss, rowsShort, textShort}
 use Rattle.standard.specs.Bytes.{unbe}
-use Rattle.standard.specs.Tree.{Tree, node, root, tall, text}
+use Rattle.standard.specs.Tree.{Tree, node, tall, text}
 use Rattle.standard.specs.Codes.{Scalar, constant, whole, small, raw, sized, Layout, unknown, described, scalar, compound, array, layoutOf, kindOf, isCode, element}
 use Rattle.standard.specs.Kinds.{styleOf, isKind, fair, clean, paired}
 use Rattle.standard.specs.Read.{cut, plain, leaf, many, done, fields, held, items, inside, coded, behind, payload, value, front}
-use Rattle.standard.specs.Table.{most, Spot, any, allowed, ranged, letters, children, firstIn, next, letter, several, row, tree, spent, table}
+use Rattle.standard.specs.Table.{most, Spot, any, allowed, naming, ranged, letters, children, spotIn, letter, several, row, tree, spent, table}
 use Rattle.standard.specs.Encode.{encode}
 use Rattle.standard.specs.Outcomes.{Extent, extent, bytesOf, size, writtenTo, write, measure, readInto, read, Step, end, part, refused, stepped, stepIn, step}
 use Rattle.laws.specs.Answers.{Holds, yes′, on}
@@ -77,7 +77,7 @@ Takes f = (c : Spot) (i : ℕ) (w x : List ℕ) → Within ofSize (f c i w x)
 several-range : (f : Spot → ℕ → List ℕ → List ℕ → Answer (Tree × List ℕ × List ℕ)) → Takes f → (n : ℕ) (c : Spot) (i : ℕ) (w x : List ℕ) → Within ofSize (several f c n i w x)
 unfolding several
 several-range f g zero c i w x = value′
-several-range f g (suc n) c i w x = then (g c i w x) (λ a. then (several-range f g n (next c (root (a .0))) (i + (length w - length (a .1)) / 2) (a .1) (a .2)) (λ b. value′))
+several-range f g (suc n) c i w x = then (g c i w x) (λ a. then (several-range f g n c (i + (length w - length (a .1)) / 2) (a .1) (a .2)) (λ b. value′))
 
 tree-range : (l : ℕ) → Takes (λ c i w x. tree l c i w x)
 unfolding tree row
@@ -87,9 +87,9 @@ tree-range zero c i (k ∷ n ∷ w) x = then (needed (isKind (styleOf k)) kindUn
 tree-range (suc l) c i [] x = refusal′ tt
 tree-range (suc l) c i (k ∷ []) x = refusal′ tt
 tree-range (suc l) c i (k ∷ n ∷ w) x =
-    then (needed (isKind (styleOf k)) kindUnknown (at i) tt) (λ u. then (needed (allowed c k) elementUnfit (at i) tt) (λ u. then (needed (ranged (styleOf k) k n) numberOutside (at i) tt) (λ u.
+    then (needed (isKind (styleOf k)) kindUnknown (at i) tt) (λ u. then (needed (allowed c k) elementUnfit (at i) tt) (λ u. then (needed (naming (spotIn (styleOf k) n)) elementUnfit (at i) tt) (λ u. then (needed (ranged (styleOf k) k n) numberOutside (at i) tt) (λ u.
     then (letter-range i (letters (styleOf k) n) x) (λ a. then (needed (clean k (a .0)) textAmiss (at i) tt) (λ u.
-    then (several-range (λ c i w x. tree l c i w x) (tree-range l) (children (styleOf k) n) (firstIn (styleOf k) n) (i + 1) w (a .1)) (λ b. value′))))))
+    then (several-range (λ c i w x. tree l c i w x) (tree-range l) (children (styleOf k) n) (spotIn (styleOf k) n) (i + 1) w (a .1)) (λ b. value′)))))))
 
 spent-range : {xs : List ℕ} (a i : ℕ) (r : List ℕ) → T (among xs a) → Within xs (spent a i r)
 unfolding spent

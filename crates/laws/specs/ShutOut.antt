@@ -15,7 +15,7 @@ use Rattle.standard.specs.Codes.{codes, entryOf, isCode}
 use Rattle.standard.specs.Kinds.{kinds, styleOf, isKind, fair, flaw}
 use Rattle.standard.specs.Tree.{rows, text, tall}
 use Rattle.standard.specs.Read.{cut, plain, leaf, coded, behind, payload, value, front}
-use Rattle.standard.specs.Table.{allowed, ranged, letters, children, firstIn, letter, several, row, tree, spent, table}
+use Rattle.standard.specs.Table.{allowed, naming, ranged, letters, children, spotIn, letter, several, row, tree, spent, table}
 use Rattle.standard.specs.Encode.{encode, compact, shortest}
 use Rattle.standard.specs.Outcomes.{levelMost, over, bytesOf, Writing, writtenTo, write, Extent, measure, Reading, readInto, read, Step, end, part, Stepping, stepped, stepIn, step}
 use Rattle.laws.specs.Demand3.{Begins, demand3}
@@ -80,11 +80,11 @@ pub record AReader (P : Reader → Type 0) : Type 0 where
 -- The outcomes that tell: null and uint 0 written into one byte; bytes 40 and 43 read into one row; two nulls walked
 
 null-written : write levelMost (0x40 ∷ 0 ∷ []) [] (0 ∷ []) ≡ record { answer = got 1; out = 0x40 ∷ [] }
-unfolding write writtenTo bytesOf table tree row several letter spent allowed ranged letters children firstIn styleOf lookup kinds isKind fair flaw encode compact shortest be
+unfolding write writtenTo bytesOf table tree row several letter spent allowed naming ranged letters children spotIn styleOf lookup kinds isKind fair flaw encode compact shortest be
 null-written = refl
 
 zero-written : write levelMost (0x70 ∷ 0 ∷ []) [] (0 ∷ []) ≡ record { answer = got 1; out = 0x43 ∷ [] }
-unfolding write writtenTo bytesOf table tree row several letter spent allowed ranged letters children firstIn styleOf lookup kinds isKind fair flaw encode compact shortest be
+unfolding write writtenTo bytesOf table tree row several letter spent allowed naming ranged letters children spotIn styleOf lookup kinds isKind fair flaw encode compact shortest be
 zero-written = refl
 
 abbrev read-row : (kind : ℕ) → Reading

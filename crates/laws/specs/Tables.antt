@@ -2,15 +2,16 @@
 use Prim.Native.Nat.{ℕ, zero, suc, _+_, _*_, _-_, _/_, _%_}
 use mathlib.Core.Path.{_≡_, refl, sym, ap, _∙_}
 use mathlib.Core.List.{List, [], _∷_, _++_, append-assoc, append-nil}
+use mathlib.Core.Bool.{Bool, true, false, not, _||_}
 use native.Mathlib.Omega.{arith}
-use lib.Dec.{eqb, leb, le→leb, leb→le}
+use lib.Dec.{T, eqb, leb, le→leb, leb→le}
 use lib.ListN.{length, length-append, take-append-drop}
 use lib.Seq.{length-take-le, take-at, drop-at}
 use Rattle.standard.specs.Answer.{Answer, got, at, rowsAmiss, kindUnknown, elementUnfit, numberOutside, textAmiss}
-use Rattle.standard.specs.Tree.{Tree, node, Trees, none, more, root, count, rows, rows*, text, text*}
-use Rattle.standard.specs.Kinds.{styleOf, isKind, clean}
-use Rattle.standard.specs.Table.{Spot, any, allowed, ranged, letters, children, firstIn, next, All, Valid, letter, several, row, tree, spent, table}
-use Rattle.standard.specs.Facts.{T-true}
+use Rattle.standard.specs.Tree.{Tree, node, Trees, none, more, count, rows, rows*, text, text*}
+use Rattle.standard.specs.Kinds.{Style, foreign, numbered, blob, lettered, listed, mapped, arrayed, describing, styleOf, isKind, member, nameable, clean, countIn, kindIn}
+use Rattle.standard.specs.Table.{most, Spot, any, allowed, naming, ranged, letters, children, spotIn, All, Valid, letter, several, row, tree, spent, table}
+use Rattle.standard.specs.Facts.{T-true, and-right}
 use Rattle.laws.specs.Sequences.{good-clean, clean-good}
 use Rattle.laws.specs.Answers.{Holds, yes′, no′, on, out, need-holds}
 use Rattle.laws.specs.Bounds.{rows-length}
@@ -28,12 +29,30 @@ several-complete P f ih (more v vs) c h i r x =
       append-assoc (rows v) (rows* vs) r,
       append-assoc (text v) (text* vs) x,
       ih c v (h .0) i (rows* vs ++ r) (text* vs ++ x),
-      several-complete P f ih vs (next c (root v)) (h .1) (i + (length (rows v ++ (rows* vs ++ r)) - length (rows* vs ++ r)) / 2) r x,
+      several-complete P f ih vs c (h .1) (i + (length (rows v ++ (rows* vs ++ r)) - length (rows* vs ++ r)) / 2) r x,
     )
 
 letter-at : (i w : ℕ) (a b : List ℕ) → length a ≡ w → letter i w (a ++ b) ≡ got (a, b)
 unfolding letter
 letter-at i w a b e = rw (T-true (leb w (length (a ++ b))) (le→leb w (length (a ++ b)) (rw length-append (omega arith))), take-at a b w e, drop-at a b w e)
+
+or-right : (a b : Bool) → T b → T (a || b)
+or-right true b t = tt
+or-right false b t = t
+
+-- a number in range names no kind that arrays cannot hold
+pub ranged-naming : (s : Style) (k n : ℕ) → T (ranged s k n) → T (naming (spotIn s n))
+unfolding ranged naming nameable spotIn
+ranged-naming foreign k n t = tt
+ranged-naming (numbered s w) k n t = tt
+ranged-naming (blob w) k n t = tt
+ranged-naming (lettered s) k n t = tt
+ranged-naming (listed e s) k n t = tt
+ranged-naming (mapped s) k n t = tt
+ranged-naming (arrayed s) k n t =
+    or-right (eqb (kindIn n) 0) (not (isKind (styleOf (kindIn n))) || member (styleOf (kindIn n)))
+    (or-right (not (isKind (styleOf (kindIn n)))) (member (styleOf (kindIn n))) (and-right (leb (countIn n) most) (member (styleOf (kindIn n))) t))
+ranged-naming describing k n t = tt
 
 pub tree-complete : (l : ℕ) → Complete (λ c i w x. tree l c i w x) (Valid l)
 unfolding tree row rows text
@@ -42,12 +61,13 @@ tree-complete (suc l) c (node k n t cs) h i r x =
     rw (
       T-true (isKind (styleOf k)) (h .0 .known),
       T-true (allowed c k) (h .0 .fits),
+      T-true (naming (spotIn (styleOf k) n)) (ranged-naming (styleOf k) k n (h .0 .inRange)),
       T-true (ranged (styleOf k) k n) (h .0 .inRange),
       append-assoc t (text* cs) x,
       letter-at i (letters (styleOf k) n) t (text* cs ++ x) (h .0 .long),
       good-clean (h .0 .good),
       ← h .0 .full,
-      several-complete (Valid l) (λ c i w x. tree l c i w x) (tree-complete l) cs (firstIn (styleOf k) n) (h .1) (i + 1) r x,
+      several-complete (Valid l) (λ c i w x. tree l c i w x) (tree-complete l) cs (spotIn (styleOf k) n) (h .1) (i + 1) r x,
     )
 
 -- f takes only what P says
@@ -58,7 +78,7 @@ pub several-sound : (P : Spot → Tree → Type 0) (f : Spot → ℕ → List �
     → (n : ℕ) (c : Spot) (i : ℕ) (w x : List ℕ) → Holds (λ y. (w ≡ rows* (y .0) ++ y .1) × (x ≡ text* (y .0) ++ y .2) × (count (y .0) ≡ n) × All P c (y .0)) (several f c n i w x)
 unfolding several count rows text
 several-sound P f g zero c i w x = yes′ (refl, refl, refl, tt)
-several-sound P f g (suc n) c i w x = on (g c i w x) (λ a h. on (several-sound P f g n (next c (root (a .0))) (i + (length w - length (a .1)) / 2) (a .1) (a .2)) (λ b j.
+several-sound P f g (suc n) c i w x = on (g c i w x) (λ a h. on (several-sound P f g n c (i + (length w - length (a .1)) / 2) (a .1) (a .2)) (λ b j.
     yes′ (rw (append-assoc (rows (a .0)) (rows* (b .0)) (b .1), ← j .0) (h .0), rw (append-assoc (text (a .0)) (text* (b .0)) (b .2), ← j .1) (h .1), ap suc (j .2), (h .2, j .3))))
 
 letter-sound : (i w : ℕ) (x : List ℕ) → Holds (λ y. (x ≡ y .0 ++ y .1) × (length (y .0) ≡ w)) (letter i w x)
@@ -73,14 +93,14 @@ tree-sound zero c i (k ∷ n ∷ w) x = on (need-holds (isKind (styleOf k)) kind
 tree-sound (suc l) c i [] x = no′
 tree-sound (suc l) c i (k ∷ []) x = no′
 tree-sound (suc l) c i (k ∷ n ∷ w) x =
-    on (need-holds (isKind (styleOf k)) kindUnknown (at i)) (λ u o. on (need-holds (allowed c k) elementUnfit (at i)) (λ u p. on (need-holds (ranged (styleOf k) k n) numberOutside (at i)) (λ u q.
+    on (need-holds (isKind (styleOf k)) kindUnknown (at i)) (λ u o. on (need-holds (allowed c k) elementUnfit (at i)) (λ u p. on (need-holds (naming (spotIn (styleOf k) n)) elementUnfit (at i)) (λ u v. on (need-holds (ranged (styleOf k) k n) numberOutside (at i)) (λ u q.
     on (letter-sound i (letters (styleOf k) n) x) (λ a h. on (need-holds (clean k (a .0)) textAmiss (at i)) (λ u s.
-    on (several-sound (Valid l) (λ c i w x. tree l c i w x) (tree-sound l) (children (styleOf k) n) (firstIn (styleOf k) n) (i + 1) w (a .1)) (λ b j.
+    on (several-sound (Valid l) (λ c i w x. tree l c i w x) (tree-sound l) (children (styleOf k) n) (spotIn (styleOf k) n) (i + 1) w (a .1)) (λ b j.
     yes′ (
       ap (λ (z : List ℕ). k ∷ n ∷ z) (j .0),
       rw (append-assoc (a .0) (text* (b .0)) (b .2), ← j .1) (h .0),
       (record { known = o; fits = p; inRange = q; long = h .1; good = clean-good k (a .0) s; full = j .2 }, j .3),
-    )))))))
+    ))))))))
 
 -- every valid value has a table, and the table holds it
 pub table-complete : (l : ℕ) (v : Tree) → Valid l any v → table l (rows v) (text v) ≡ got v

@@ -1,8 +1,8 @@
 -- What is written is well-formed.
 use Prim.Native.Nat.{ℕ, zero, suc, _+_, _-_, _%_, _^_, _≤_, _<_}
-use mathlib.Core.Path.{_≡_, refl, sym, _∙_, subst}
+use mathlib.Core.Path.{_≡_, refl, sym, ap, _∙_, subst}
 use mathlib.Core.List.{List, [], _∷_, _++_}
-use mathlib.Core.Bool.{Bool, true, false, _||_}
+use mathlib.Core.Bool.{Bool, true, false, _&&_, _||_}
 use native.Mathlib.Omega.{arith}
 use lib.Dec.{T, eqb, leb, ltb, eqb→eq, ltb→lt, nltb→le, leb→le, lit<}
 use lib.ListN.{length, length-append}
@@ -11,10 +11,10 @@ use Rattle.standard.specs.Bytes.{be, unbe}
 use Rattle.standard.specs.Tree.{Tree, node, Trees, none, more, root, count}
 use Rattle.standard.specs.Codes.{constant, whole, small, raw, sized, Layout, described, scalar, compound, array, entry, codes, entryOf, layoutOf, kindOf, filled, element}
 use Rattle.standard.specs.Utf8.{GoodText}
-use Rattle.standard.specs.Kinds.{Short, never, flag, unsigned, signed, Style, foreign, numbered, blob, lettered, listed, mapped, arrayed, describing, Kind, kind, kinds, styleOf, member, fair, paired}
-use Rattle.standard.specs.Grammar.{extend, negative, constant′, whole′, small′, raw′, sized′, Many, none′, more′, Leaf, leaf′, Fields, fields′, coded′, Items, empty′, items′, Shape, scalar′, described′, compound′, array′, Payload, Form, Formed}
-use Rattle.standard.specs.Table.{most, Spot, any, first, like, allowed, ranged, letters, children, firstIn, next, Row, All, Valid}
-use Rattle.standard.specs.Encode.{fitsByte, shortEnd, shortest, enclosed, compact, wide, headed, encode, encode*, item, payloads}
+use Rattle.standard.specs.Kinds.{Short, never, flag, unsigned, signed, Style, foreign, numbered, blob, lettered, listed, mapped, arrayed, describing, Kind, kind, kinds, styleOf, member, fair, paired, named, countIn, kindIn}
+use Rattle.standard.specs.Grammar.{extend, negative, constant′, whole′, small′, raw′, sized′, Many, none′, more′, Leaf, leaf′, Fields, fields′, coded′, Items, items′, Shape, scalar′, described′, compound′, array′, Payload, Form, Formed}
+use Rattle.standard.specs.Table.{most, Spot, any, like, allowed, ranged, letters, children, spotIn, Row, All, Valid}
+use Rattle.standard.specs.Encode.{fitsByte, shortEnd, shortest, enclosed, compact, wide, encode, encode*, item, payloads}
 use Rattle.standard.specs.Facts.{and-left, and-right, if-case}
 use Rattle.laws.specs.Numbers.{length-be, unbe-be, low-byte}
 
@@ -165,16 +165,23 @@ compound-form : (l s k n : ℕ) (vs : Trees) (b : List ℕ) → Code s k (compou
 compound-form l s k n vs b c d p f m =
     enclosed-case (λ x. Form (suc l) (node k n [] vs) x) s k n b (many-count (Form l) (form-some l) f) m (λ hs h. form l c (compound′ h p f)) (λ hs h. form l d (compound′ h p f))
 
--- the body of an array, and that it has a byte for each element
-Body : (levels : ℕ) → Trees → List ℕ → Type 0
-Body l cs a = (e : ℕ) × Items (Payload l) (count cs) e cs a × (count cs ≤ length a)
+-- the elements of an array of kind j behind their code, and that there is a byte for each
+Body : (levels kind : ℕ) → Trees → List ℕ → Type 0
+Body l j cs a = Items (Payload l) (count cs) j cs (j ∷ a) × (count cs ≤ length a)
 
-array-form : (l s k n : ℕ) (vs : Trees) (a : List ℕ) → Agrees k (arrayed s) → count vs ≡ n → Body l vs a → length (enclosed s k n a) ≤ most → Form (suc l) (node k n [] vs) (enclosed s k n a)
+-- a number is that of its count and its kind
+number-whole : (n : ℕ) → named (countIn n) (kindIn n) ≡ n
+unfolding named countIn kindIn
+number-whole n = omega arith
+
+array-form : (l s k n : ℕ) (vs : Trees) (a : List ℕ) → Agrees k (arrayed s) → count vs ≡ countIn n → Body l (kindIn n) vs a → length (enclosed s k (countIn n) (kindIn n ∷ a)) ≤ most
+    → Form (suc l) (node k n [] vs) (enclosed s k (countIn n) (kindIn n ∷ a))
 unfolding Body
 array-form l s k n vs a g c i m =
-    let o : n ≤ length a = rw c at (i .2) in
-    let j : Items (Payload l) n (i .0) vs a = rw c at (i .1) in
-    enclosed-case (λ x. Form (suc l) (node k n [] vs) x) s k n a o m (λ hs h. form l (g .0) (array′ h j)) (λ hs h. form l (g .1) (array′ h j))
+    let o : countIn n ≤ length a = rw c at (i .1) in
+    let j : Items (Payload l) (countIn n) (kindIn n) vs (kindIn n ∷ a) = rw c at (i .0) in
+    subst (λ (x : ℕ). Form (suc l) (node k x [] vs) (enclosed s k (countIn n) (kindIn n ∷ a))) (number-whole n)
+    (enclosed-case (λ x. Form (suc l) (node k (named (countIn n) (kindIn n)) [] vs) x) s k (countIn n) (kindIn n ∷ a) (omega (arith, o)) m (λ hs h. form l (g .0) (array′ h j)) (λ hs h. form l (g .1) (array′ h j)))
 
 pub no-children : (cs : Trees) → count cs ≡ 0 → cs ≡ none
 unfolding count
@@ -192,10 +199,13 @@ record Fit (s : Style) (k n : ℕ) (t : List ℕ) (cs : Trees) : Type 0 where
   good : GoodText k t
   full : count cs ≡ children s n
 
+told : (n : ℕ) → T (leb (countIn n) most && member (styleOf (kindIn n))) → T (member (styleOf (kindIn n)))
+told n t = and-right (leb (countIn n) most) (member (styleOf (kindIn n))) t
+
 -- a row as a value, from its children as values and as elements
 compact-form : (s : Style) (l k n : ℕ) (t : List ℕ) (cs : Trees) (b a : List ℕ) → Agrees k s → Fit s k n t cs → length (compact s k n t b a) ≤ most
-    → (length b ≤ most → Many (Form l) (count cs) cs b) → (firstIn s n ≡ first → length a ≤ most → Body l cs a) → Form (suc l) (node k n t cs) (compact s k n t b a)
-unfolding compact ranged letters children firstIn
+    → (length b ≤ most → Many (Form l) (count cs) cs b) → ((j : ℕ) → spotIn s n ≡ like j → T (member (styleOf j)) → length a ≤ most → Body l j cs a) → Form (suc l) (node k n t cs) (compact s k n t b a)
+unfolding compact ranged letters children spotIn
 compact-form foreign l k n t cs b a g r m f e = absurd (r .inRange)
 compact-form (numbered s w) l k n t cs b a g r m f e =
     let d : t ≡ [] = no-text t (r .long) in
@@ -214,7 +224,8 @@ compact-form (listed z s) l k n t cs b a g r m f e =
 compact-form (mapped s) l k n t cs b a g r m f e =
     rw (no-text t (r .long))
     (compound-form l s k n cs b (g .0) (g .1) (g .2 n (eqb→eq (n % 2) 0 (and-right (leb n most) (eqb (n % 2) 0) (r .inRange)))) (rw (r .full) at (f (omega (arith, enclosed-length s k n b)))) m)
-compact-form (arrayed s) l k n t cs b a g r m f e = rw (no-text t (r .long)) (array-form l s k n cs a g (r .full) (e refl (omega (arith, enclosed-length s k n a))) m)
+compact-form (arrayed s) l k n t cs b a g r m f e =
+    rw (no-text t (r .long)) (array-form l s k n cs a g (r .full) (e (kindIn n) refl (told n (r .inRange)) (omega (arith, enclosed-length s k (countIn n) (kindIn n ∷ a)))) m)
 compact-form describing l k n t cs b a g r m f e =
     let i : n ≡ 2 = eqb→eq n 2 (r .inRange) in
     rw (no-text t (r .long), i) (form l g (described′ (rw (r .full ∙ i) at (f (omega arith)))))
@@ -230,8 +241,8 @@ four-fields n b h m =
 
 -- a row behind its own code, from its children as values and as elements, and that it takes a byte
 wide-form : (s : Style) (l k n : ℕ) (t : List ℕ) (cs : Trees) (b a : List ℕ) → Agrees k s → T (member s) → Fit s k n t cs → length (wide s n t b a) ≤ most
-    → (length b ≤ most → Many (Form l) (count cs) cs b) → (firstIn s n ≡ first → length a ≤ most → Body l cs a) → Payload (suc l) k (node k n t cs) (wide s n t b a) × (0 < length (wide s n t b a))
-unfolding member wide ranged letters children firstIn Body
+    → (length b ≤ most → Many (Form l) (count cs) cs b) → ((j : ℕ) → spotIn s n ≡ like j → T (member (styleOf j)) → length a ≤ most → Body l j cs a) → Payload (suc l) k (node k n t cs) (wide s n t b a) × (0 < length (wide s n t b a))
+unfolding member wide ranged letters children spotIn Body
 wide-form foreign l k n t cs b a g p r m f e = absurd p
 wide-form (numbered s w) l k n t cs b a g p r m f e =
     let d : t ≡ [] = no-text t (r .long) in (
@@ -253,10 +264,12 @@ wide-form (mapped s) l k n t cs b a g p r m f e =
     let o : n % 2 ≡ 0 = eqb→eq (n % 2) 0 (and-right (leb n most) (eqb (n % 2) 0) (r .inRange)) in
     (rw (no-text t (r .long)) (under l (g .1) (compound′ (four-fields n b (many-count (Form l) (form-some l) i) m) (g .2 n o) i)), omega (arith, four-length n b))
 wide-form (arrayed s) l k n t cs b a g p r m f e =
-    let i = e refl (omega (arith, four-length n a)) in
-    let j : Items (Payload l) n (i .0) cs a = rw (r .full) at (i .1) in
-    let o : n ≤ length a = rw (r .full) at (i .2) in
-    (rw (no-text t (r .long)) (under l (g .1) (array′ (four-fields n a o m) j)), omega (arith, four-length n a))
+    let c : length (be 4 (4 + length (kindIn n ∷ a)) ++ be 4 (countIn n) ++ (kindIn n ∷ a)) ≡ 8 + length (kindIn n ∷ a) = four-length (countIn n) (kindIn n ∷ a) in
+    let i = e (kindIn n) refl (told n (r .inRange)) (omega (arith, c)) in
+    let j : Items (Payload l) (countIn n) (kindIn n) cs (kindIn n ∷ a) = rw (r .full) at (i .0) in
+    let o : countIn n ≤ length a = rw (r .full) at (i .1) in
+    let y : Payload (suc l) k (node k (named (countIn n) (kindIn n)) [] cs) (be 4 (4 + length (kindIn n ∷ a)) ++ be 4 (countIn n) ++ (kindIn n ∷ a)) = under l (g .1) (array′ (four-fields (countIn n) (kindIn n ∷ a) (omega (arith, o)) m) j) in
+    (rw (no-text t (r .long)) (subst (λ (x : ℕ). Payload (suc l) k (node k x [] cs) (be 4 (4 + length (kindIn n ∷ a)) ++ be 4 (countIn n) ++ (kindIn n ∷ a))) (number-whole n) y), omega (arith, c))
 wide-form describing l k n t cs b a g p r m f e = absurd p
 
 -- Elements
@@ -275,6 +288,18 @@ element-ok (mapped s) k h t = element-at (h .1) tt
 element-ok (arrayed s) k h t = element-at (h .1) tt
 element-ok describing k h t = absurd t
 
+-- a kind that arrays can hold is the kind of its own code
+own-kind : (s : Style) (k : ℕ) → Agrees k s → T (member s) → kindOf k ≡ k
+unfolding member
+own-kind foreign k h t = absurd t
+own-kind (numbered s w) k h t = ap (λ e. e .kind) (h .0)
+own-kind (blob w) k h t = ap (λ e. e .kind) (h .0)
+own-kind (lettered s) k h t = ap (λ e. e .kind) (h .1)
+own-kind (listed e s) k h t = ap (λ e. e .kind) (h .2)
+own-kind (mapped s) k h t = ap (λ e. e .kind) (h .1)
+own-kind (arrayed s) k h t = ap (λ e. e .kind) (h .1)
+own-kind describing k h t = absurd t
+
 abbrev pub AllOf : (kind : ℕ) → Trees → Type 0
 AllOf k none = Unit {0}
 AllOf k (more v vs) = (root v ≡ k) × AllOf k vs
@@ -284,18 +309,14 @@ spot-of zero c v h = absurd h
 spot-of (suc l) c (node k n t cs) h = h .0 .fits
 
 pub alike : (l k : ℕ) (vs : Trees) → All (λ d v. Valid l d v) (like k) vs → AllOf k vs
-unfolding next allowed
+unfolding allowed
 alike l k none h = tt
 alike l k (more (node j n t cs) vs) h = (eqb→eq j k (spot-of l (like k) (node j n t cs) (h .0)), alike l k vs (h .1))
 
-headed-form : (l : ℕ) (vs : Trees) (b : List ℕ) → ((k : ℕ) → T (member (styleOf k)) → AllOf k vs → length b ≤ most → Many (Payload l k) (count vs) vs b × (count vs ≤ length b))
-    → All (λ d v. Valid l d v) first vs → length (headed vs b) ≤ most → Body l vs (headed vs b)
-unfolding headed count next allowed Body
-headed-form l none b f h m = (0, empty′, omega arith)
-headed-form l (more (node k n t cs) vs) b f h m =
-    let p : T (member (styleOf k)) = spot-of l first (node k n t cs) (h .0) in
-    let r = f k p (refl, alike l k vs (h .1)) (omega arith) in
-    (kindOf k, items′ (element-ok (styleOf k) k (agreement k) p) (r .0), omega (arith, r .1))
+body-form : (l j : ℕ) (vs : Trees) (b : List ℕ) → T (member (styleOf j)) → Many (Payload l j) (count vs) vs b × (count vs ≤ length b) → Body l j vs b
+unfolding Body
+body-form l j vs b p r =
+    (subst (λ (k : ℕ). Items (Payload l) (count vs) k vs (j ∷ b)) (own-kind (styleOf j) j (agreement j) p) (items′ (element-ok (styleOf j) j (agreement j) p) (r .0)), r .1)
 
 fit : (c : Spot) (k n : ℕ) (t : List ℕ) (cs : Trees) → Row c k n t cs → Fit (styleOf k) k n t cs
 fit c k n t cs h = record { inRange = h .inRange; long = h .long; good = h .good; full = h .full }
@@ -305,20 +326,20 @@ mutual
 
   encode-form : (v : Tree) (l : ℕ) (c : Spot) → Valid l c v → length (encode v) ≤ most → Form l v (encode v)
   encode-form (node k n t cs) zero c h m = absurd h
-  encode-form (node k n t cs) (suc l) c h m = compact-form (styleOf k) l k n t cs (encode* cs) (headed cs (payloads cs)) (agreement k) (fit c k n t cs (h .0)) m
-      (λ i. encode*-form cs l (firstIn (styleOf k) n) (h .1) i) (λ e i. headed-form l cs (payloads cs) (λ j p a o. payloads-form cs j p l (firstIn (styleOf k) n) a (h .1) o) (rw e at (h .1)) i)
+  encode-form (node k n t cs) (suc l) c h m = compact-form (styleOf k) l k n t cs (encode* cs) (payloads cs) (agreement k) (fit c k n t cs (h .0)) m
+      (λ i. encode*-form cs l (spotIn (styleOf k) n) (h .1) i) (λ j e p i. body-form l j cs (payloads cs) p (payloads-form cs j p l (like j) (alike l j cs (rw e at (h .1))) (rw e at (h .1)) i))
 
   encode*-form : (vs : Trees) (l : ℕ) (c : Spot) → All (λ d v. Valid l d v) c vs → length (encode* vs) ≤ most → Many (Form l) (count vs) vs (encode* vs)
   encode*-form none l c h m = none′
   encode*-form (more v vs) l c h m =
       let e : length (encode v ++ encode* vs) ≡ length (encode v) + length (encode* vs) = length-append (encode v) (encode* vs) in
-      more′ (encode-form v l c (h .0) (omega arith)) (encode*-form vs l (next c (root v)) (h .1) (omega arith))
+      more′ (encode-form v l c (h .0) (omega arith)) (encode*-form vs l c (h .1) (omega arith))
 
   pub item-form : (v : Tree) (k : ℕ) → T (member (styleOf k)) → (l : ℕ) (c : Spot) → root v ≡ k → Valid l c v → length (item v) ≤ most → Payload l k v (item v) × (0 < length (item v))
   item-form (node j n t cs) k p zero c a h m = absurd h
   item-form (node j n t cs) k p (suc l) c a h m =
-      let r = wide-form (styleOf j) l j n t cs (encode* cs) (headed cs (payloads cs)) (agreement j) (rw a p) (fit c j n t cs (h .0)) m
-      (λ i. encode*-form cs l (firstIn (styleOf j) n) (h .1) i) (λ e i. headed-form l cs (payloads cs) (λ x q b o. payloads-form cs x q l (firstIn (styleOf j) n) b (h .1) o) (rw e at (h .1)) i) in
+      let r = wide-form (styleOf j) l j n t cs (encode* cs) (payloads cs) (agreement j) (rw a p) (fit c j n t cs (h .0)) m
+      (λ i. encode*-form cs l (spotIn (styleOf j) n) (h .1) i) (λ x e q i. body-form l x cs (payloads cs) q (payloads-form cs x q l (like x) (alike l x cs (rw e at (h .1))) (rw e at (h .1)) i)) in
       (subst (λ x. Payload (suc l) x (node j n t cs) (item (node j n t cs))) a (r .0), r .1)
 
   payloads-form : (vs : Trees) (k : ℕ) → T (member (styleOf k)) → (l : ℕ) (c : Spot) → AllOf k vs → All (λ d v. Valid l d v) c vs → length (payloads vs) ≤ most → Many (Payload l k) (count vs) vs (payloads vs) × (count vs ≤ length (payloads vs))
@@ -326,7 +347,7 @@ mutual
   payloads-form (more v vs) k p l c a h m =
       let e : length (item v ++ payloads vs) ≡ length (item v) + length (payloads vs) = length-append (item v) (payloads vs) in
       let i = item-form v k p l c (a .0) (h .0) (omega arith) in
-      let r = payloads-form vs k p l (next c (root v)) (a .1) (h .1) (omega arith) in
+      let r = payloads-form vs k p l c (a .1) (h .1) (omega arith) in
       (more′ (i .0) (r .0), omega (arith, i .1, r .1))
 
 -- every value of the table that is not too long is written to well-formed bytes

@@ -1,29 +1,11 @@
 -- The kinds of the rows that are read are bytes, so that two hex digits are enough.
 use Prim.Native.Nat.{ℕ, zero, suc, _<_}
-use mathlib.Core.List.{List, [], _∷_, _++_, append-assoc, append-nil}
-use mathlib.Core.Bool.{Bool, true, _&&_}
-use native.Mathlib.Omega.{arith}
-use lib.Dec.{T, eqb, ltb, ltb→lt}
-use Rattle.standard.specs.Choose.{lookup}
-use Rattle.standard.specs.Codes.{Entry, Layout, codes, entryOf, kindOf}
+use mathlib.Core.List.{List, [], _++_, append-assoc, append-nil}
+use Rattle.standard.specs.Codes.{Layout}
 use Rattle.standard.specs.Tree.{Tree, Trees, rows, rows*}
 use Rattle.standard.specs.Grammar.{Many, none′, more′, leaf′, Coded, coded′, Items, empty′, items′, Shape, scalar′, described′, compound′, array′, Payload, Form}
-use Rattle.standard.specs.Facts.{if-case, and-left, and-right}
+use Rattle.laws.specs.Bounds.{kind-byte}
 use Rattle.listing.specs.Lines.{Narrow}
-
--- a test of the whole table of codes
-allNarrow : List Entry → Bool
-allNarrow [] = true
-allNarrow (e ∷ es) = ltb (e .kind) 256 && allNarrow es
-
-found-narrow : (x : Entry) (c : ℕ) (es : List Entry) → x .kind < 256 → T (allNarrow es) → lookup (λ e. e .code) x c es .kind < 256
-unfolding lookup allNarrow
-found-narrow x c [] h t = h
-found-narrow x c (e ∷ es) h t = if-case (λ (z : Entry). z .kind < 256) (eqb c (e .code)) e (lookup (λ e. e .code) x c es) (λ u. ltb→lt (e .kind) 256 (and-left (ltb (e .kind) 256) (allNarrow es) t)) (λ u. found-narrow x c es h (and-right (ltb (e .kind) 256) (allNarrow es) t))
-
-kind-narrow : (c : ℕ) → kindOf c < 256
-unfolding entryOf codes allNarrow
-kind-narrow c = found-narrow _ c codes (omega arith) tt
 
 -- the rows of a value are narrow, and so are others behind them
 abbrev Good : Tree → Type 0
@@ -55,7 +37,7 @@ module _ {P : ℕ → Tree → List ℕ → Type 0} (g : (c : ℕ) (v : Tree) (a
 
 payload-narrow : (l c : ℕ) (v : Tree) (a : List ℕ) → Payload l c v a → Good v
 payload-narrow zero c v a f = absurd f
-payload-narrow (suc l) c v a f = shape-narrow (payload-narrow l) (kind-narrow c) f
+payload-narrow (suc l) c v a f = shape-narrow (payload-narrow l) (kind-byte c) f
 
 pub rows-narrow : (l : ℕ) (v : Tree) (a : List ℕ) → Form l v a → Narrow (rows v)
 rows-narrow l v a f = rw append-nil at (coded-narrow (payload-narrow l) v a f [] tt)

@@ -8,13 +8,13 @@ use borrow.Author.Tests.{eqb-true, eqb-false, ne-eqb}
 use lib.Dec.{T, eqb, eqb→eq, leb, leb→le, ltb, ltb→lt}
 use Rattle.standard.specs.Choose.{lookup}
 use Rattle.standard.specs.Codes
-use Rattle.standard.specs.Codes.{codes, entry, entryOf, constant, whole, small, raw, sized, unknown, described, scalar, compound, array, layoutOf, kindOf}
+use Rattle.standard.specs.Codes.{codes, entry, entryOf, constant, whole, small, raw, sized, unknown, described, scalar, compound, array, layoutOf, kindOf, filled, element}
 use Rattle.standard.specs.Kinds.{fair}
 use Rattle.standard.specs.InCode.{layoutIs, entryIs}
 use Rattle.standard.specs.declared.format_code.Layout.{Layout}
 use Rattle.standard.specs.declared.format_code.Entry.{Entry}
-use Rattle.standard.specs.Facts.{and-left, and-right, if-case}
-use Rattle.reader.specs.Entries.{narrow, usual, judged, sure, plainCode, plainWidth, compoundWidth, compoundKind}
+use Rattle.standard.specs.Facts.{T-true, and-left, and-right, if-case}
+use Rattle.reader.specs.Entries.{narrow, usual, judged, sure, plainCode, plainWidth, shortCode, compoundWidth, compoundKind}
 
 all : {A : Type 0} → (A → Bool) → List A → Bool
 all P [] = true
@@ -95,6 +95,14 @@ plain-shifts c h = eqb→eq (1 * 2 ^ (c / 16) % 2 ^ 64 / 32) (plainWidth c) (all
 pub plain-widths : (c : ℕ) → c < 256 → plainWidth c < 2 ^ 16
 unfolding plainWidth all upto
 plain-widths c h = ltb→lt (plainWidth c) (2 ^ 16) (all-upto (λ c. ltb (plainWidth c) (2 ^ 16)) 256 c tt h)
+
+-- an element code of a wide form is the kind itself
+wides : (c : ℕ) → c < 256 → T (not (element (layoutOf c)) || (shortCode c || eqb (kindOf c) c))
+unfolding lookup entryOf codes element filled shortCode all upto
+wides c h = all-upto (λ c. not (element (layoutOf c)) || (shortCode c || eqb (kindOf c) c)) 256 c tt h
+
+pub wide-kind : (c : ℕ) → c < 256 → T (element (layoutOf c)) → shortCode c ≡ false → kindOf c ≡ c
+wide-kind c h t e = eqb→eq (kindOf c) c (either (shortCode c) _ (either (not (element (layoutOf c))) _ (wides c h) (rw (T-true (element (layoutOf c)) t))) e)
 
 -- a compound of that width and kind, or none and no width
 agrees : (width kind k : ℕ) → Codes.Layout → Bool

@@ -11,16 +11,18 @@ use lib.ListN.{length, take, drop, getD, length-drop, take-append-drop}
 use lib.Seq.{drop-cons, drop-drop, getD-take, getD-drop, length-take-le}
 use Rattle.standard.specs.Answer.{Answer, got, refuse, Place, at, _>>=_, need, inputShort, sizeAmiss}
 use Rattle.standard.specs.Bytes.{unbe}
-use Rattle.standard.specs.Codes.{Scalar, constant, whole, small, raw, sized, Layout, unknown, described, scalar, compound, array, entryOf, layoutOf, kindOf}
+use Rattle.standard.specs.Codes.{Scalar, constant, whole, small, raw, sized, Layout, unknown, described, scalar, compound, array, entryOf, layoutOf, kindOf, element}
+use Rattle.standard.specs.Kinds.{named}
 use Rattle.standard.specs.Grammar.{extend}
 use Rattle.standard.specs.Read.{cut, plain, fields}
+use Rattle.standard.specs.Facts.{T-true}
 use Rattle.standard.specs.InCode.{layoutIs, entryIs}
 use Rattle.laws.specs.Numbers.{spelled}
 use Rattle.laws.specs.Flat.{own, under, row, opened, behindStep, stepOf}
 use Rattle.standard.specs.declared.format_code.Entry.{Entry}
 use Rattle.standard.specs.declared.format_code.Layout as in-code
 use Rattle.reader.specs.Entries.{sure}
-use Rattle.reader.specs.Filling.{Lands, headIs, leafRow, parentRow, RowFound, CodeFound}
+use Rattle.reader.specs.Filling.{Lands, headIs, leafRow, parentRow, arrayRow, RowFound, CodeFound}
 use Rattle.reader.specs.declared.filling.Row.{Row}
 use Rattle.reader.proofs.Entries.{entry-layout, entry-sure}
 use Rattle.reader.proofs.Rooms.{cut-got, fields-got}
@@ -130,7 +132,7 @@ module _ (b : List ℕ) (k i : ℕ) (g : i ≤ length b) where
       let j : n ≤ length (drop w (drop i b)) = cut-fits n (drop w (drop i b)) (lands-first (cut 0 n (drop w (drop i b))) _ l) in
       leaf-row (sized w) n w n (i + w) (rw (cut-got 0 w (drop i b) f, ← e, cut-got 0 n (drop w (drop i b)) j)) (omega (arith, length-drop w (drop i b))) refl
 
-  pub described-row : RowFound b (behindStep k (drop i b) described) (parentRow k 2 i 256)
+  pub described-row : RowFound b (behindStep k (drop i b) described) (parentRow k 2 i)
   unfolding behindStep
   described-row = record { step = rw add-zero; inside = omega arith }
 
@@ -141,7 +143,7 @@ module _ (b : List ℕ) (k i : ℕ) (g : i ≤ length b) where
   pub compound-fits : (w : ℕ) → Lands (behindStep k (drop i b) (compound w)) → i + w + w ≤ length b
   compound-fits w h = omega (arith, compound-lands w h .fits)
 
-  pub compound-row : (w n : ℕ) → Lands (behindStep k (drop i b) (compound w)) → n ≡ unbe (take w (drop (i + w) b)) → RowFound b (behindStep k (drop i b) (compound w)) (parentRow k n (i + w + w) 256)
+  pub compound-row : (w n : ℕ) → Lands (behindStep k (drop i b) (compound w)) → n ≡ unbe (take w (drop (i + w) b)) → RowFound b (behindStep k (drop i b) (compound w)) (parentRow k n (i + w + w))
   unfolding behindStep
   compound-row w n h e = let s = compound-lands w h in record { step = rw (s .is, part-rest (i + w + w) (s .long) b, add-zero, e); inside = omega arith }
 
@@ -152,40 +154,49 @@ module _ (b : List ℕ) (k i : ℕ) (g : i ≤ length b) where
   pub array-fits : (w : ℕ) → Lands (behindStep k (drop i b) (array w)) → i + w + w ≤ length b
   array-fits w h = omega (arith, array-lands w h .fits)
 
-  pub empty-row : (w z : ℕ) → Lands (behindStep k (drop i b) (array w)) → unbe (take w (drop (i + w) b)) ≡ 0 → z ≡ unbe (take w (drop i b)) → RowFound b (behindStep k (drop i b) (array w)) (leafRow k 0 (i + w + z) 0)
-  unfolding behindStep opened
-  empty-row w z h e y =
+  -- an array whose size is that of its count field alone has no elements, and does not tell their kind
+  none-step : (n : ℕ) (r : List ℕ) → Lands (opened k n [] r) → opened k n [] r ≡ row k 0 [] 0 own r
+  unfolding opened named
+  none-step zero r h = refl
+  none-step (suc n) r h = absurd h
+
+  pub empty-row : (w : ℕ) → Lands (behindStep k (drop i b) (array w)) → unbe (take w (drop i b)) ≡ w → RowFound b (behindStep k (drop i b) (array w)) (leafRow k 0 (i + w + w) 0)
+  unfolding behindStep
+  empty-row w h e =
       let s = array-lands w h in
-      let q : i + w + w + s .long ≡ i + w + z = omega arith in
-      record { step = rw (s .is, e, q, add-zero); inside = omega arith }
+      let q : s .long ≡ 0 = omega (arith, s .size, e) in
+      let n = unbe (take w (drop (i + w) b)) in
+      let f : fields 0 w (drop i b) ≡ got (n, [], drop (i + w + w) b) = s .is ∙ rw (q, add-zero) in
+      record { step = rw (f, none-step n (drop (i + w + w) b) (rw f at h), add-zero); inside = omega (arith, s .fits) }
 
-  -- a body with elements has their code
-  items-some : (n : ℕ) (l r : List ℕ) → (n ≡ 0 → ⊥) → Lands (opened k n l r) → 1 ≤ length l
+  -- an element code is there
+  items-code : (n d : ℕ) (l r : List ℕ) → 1 ≤ length l → d ≡ getD l 0 0 → Lands (opened k n l r) → T (element (layoutOf d))
   unfolding opened
-  items-some zero l r h y = absurd (h refl)
-  items-some (suc n) [] r h y = absurd y
-  items-some (suc n) (e ∷ l) r h y = omega arith
+  items-code n d [] r y z h = absurd (omega arith)
+  items-code n d (e ∷ l) r y z h = rw z (need-lands (element (layoutOf e)) 0 (at 0) _ h)
 
-  items-step : (n d : ℕ) (l r : List ℕ) → (n ≡ 0 → ⊥) → 1 ≤ length l → d ≡ getD l 0 0 → opened k n l r ≡ row k n [] n (under d) (drop 1 (l ++ r))
+  items-step : (n d : ℕ) (l r : List ℕ) → 1 ≤ length l → d ≡ getD l 0 0 → T (element (layoutOf d)) → opened k n l r ≡ row k (named n (kindOf d)) [] n (under d) (drop 1 (l ++ r))
   unfolding opened
-  items-step zero d l r h y z = absurd (h refl)
-  items-step (suc n) d [] r h y z = absurd (omega arith)
-  items-step (suc n) d (e ∷ l) r h y z = rw z
+  items-step n d [] r y z t = absurd (omega arith)
+  items-step n d (e ∷ l) r y z t = rw (← z, T-true (element (layoutOf d)) t)
 
-  -- an array with elements: its count is above 0
-  module _ (w n : ℕ) (h : Lands (behindStep k (drop i b) (array w))) (e : n ≡ unbe (take w (drop (i + w) b))) (m : n ≡ 0 → ⊥) where
+  -- an array of another size
+  module _ (w n : ℕ) (h : Lands (behindStep k (drop i b) (array w))) (e : n ≡ unbe (take w (drop (i + w) b))) (m : unbe (take w (drop i b)) ≡ w → ⊥) where
     abbrev long : ℕ
     long = array-lands w h .long
 
     abbrev body : List ℕ
     body = take long (drop (i + w + w) b)
 
-    body-some : 1 ≤ length body
-    unfolding behindStep
-    body-some = items-some n body (drop (i + w + w + long) b) m (rw (array-lands w h .is, ← e) at h)
-
     long-some : 1 ≤ long
-    long-some = omega (arith, body-some, length-take-le long (drop (i + w + w) b) (omega (arith, array-lands w h .fits, length-drop (i + w + w) b)))
+    long-some = go long (array-lands w h .size)
+      where
+        go : (l : ℕ) → unbe (take w (drop i b)) ≡ w + l → 1 ≤ l
+        go zero y = absurd (m (y ∙ add-zero w))
+        go (suc l) y = omega arith
+
+    body-some : 1 ≤ length body
+    body-some = omega (arith, long-some, length-take-le long (drop (i + w + w) b) (omega (arith, array-lands w h .fits, length-drop (i + w + w) b)))
 
     pub items-fit : i + w + w + 1 ≤ length b
     items-fit = omega (arith, long-some, array-lands w h .fits)
@@ -193,7 +204,11 @@ module _ (b : List ℕ) (k i : ℕ) (g : i ≤ length b) where
     first-byte : getD body 0 0 ≡ getD b (i + w + w) 0
     first-byte = rw (getD-take long (drop (i + w + w) b) 0 0 long-some, getD-drop (i + w + w) b 0 0, add-zero)
 
-    pub items-row : (d : ℕ) → d ≡ getD b (i + w + w) 0 → d < 256 → RowFound b (behindStep k (drop i b) (array w)) (parentRow k n (i + w + w + 1) d)
+    pub items-element : (d : ℕ) → d ≡ getD b (i + w + w) 0 → T (element (layoutOf d))
+    unfolding behindStep
+    items-element d z = items-code n d body (drop (i + w + w + long) b) body-some (z ∙ sym first-byte) (rw (array-lands w h .is, ← e) at h)
+
+    pub items-row : (d : ℕ) → d ≡ getD b (i + w + w) 0 → d < 256 → RowFound b (behindStep k (drop i b) (array w)) (arrayRow k n (i + w + w + 1) d)
     unfolding behindStep
     items-row d z y =
         record {
@@ -201,7 +216,7 @@ module _ (b : List ℕ) (k i : ℕ) (g : i ≤ length b) where
               rw (
                 array-lands w h .is,
                 ← e,
-                items-step n d body (drop (i + w + w + long) b) m body-some (z ∙ sym first-byte),
+                items-step n d body (drop (i + w + w + long) b) body-some (z ∙ sym first-byte) (items-element d z),
                 part-rest (i + w + w) long b,
                 drop-drop 1 (i + w + w) b,
                 add-zero,

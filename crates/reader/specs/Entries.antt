@@ -46,6 +46,10 @@ plainCode c = ltb (c % 16) (plainBelow (c / 16))
 unfoldable pub plainWidth : (code : ℕ) → ℕ
 plainWidth c = 2 ^ (c / 16) / 32
 
+-- the element codes of short forms; that of a wide form is the kind itself (`wide-kind` of proofs/Entries.antt)
+unfoldable pub shortCode : (code : ℕ) → Bool
+shortCode c = eqb c 0x52 || (eqb c 0x53 || (eqb c 0x54 || (eqb c 0x55 || (eqb c 0xa0 || (eqb c 0xa1 || (eqb c 0xa3 || (eqb c 0xc0 || (eqb c 0xc1 || eqb c 0xe0))))))))
+
 -- the width of the fields of a list or a map, 0 for other codes
 unfoldable pub compoundWidth : (code : ℕ) → ℕ
 compoundWidth c = if (eqb c 0xc0) 1 (if (eqb c 0xc1) 1 (if (eqb c 0xd0) 4 (if (eqb c 0xd1) 4 0)))

@@ -8,6 +8,7 @@ use Rattle.standard.specs.Answer.{Answer, got, refuse}
 use Rattle.standard.specs.Choose.{if}
 use Rattle.standard.specs.Tree.{Tree, rows, text, tall}
 use Rattle.standard.specs.Codes.{kindOf, layoutOf}
+use Rattle.standard.specs.Kinds.{named}
 use Rattle.standard.specs.Read.{front}
 use Rattle.standard.specs.Outcomes.{levelMost}
 use Rattle.laws.specs.Flat.{Head, own, under, Run, push, Step, row, behindStep}
@@ -58,12 +59,15 @@ pub record RowFound (bytes : List ℕ) (s : Answer Step) (r : Row) : Type 0 wher
   pub step : s ≡ stepIs bytes r
   pub inside : r .from + r .text ≤ length bytes
 
--- a row with no children, and one with no text
+-- a row with no children; one whose number is that of its children; and one of an array, behind whose code they stand
 abbrev pub leafRow : (kind number start size : ℕ) → Row
 leafRow k n i t = record { kind = k; number = n; from = i; text = t; children = 0; code = 256 }
 
-abbrev pub parentRow : (kind count start code : ℕ) → Row
-parentRow k n i c = record { kind = k; number = n; from = i; text = 0; children = n; code = c }
+abbrev pub parentRow : (kind count start : ℕ) → Row
+parentRow k n i = record { kind = k; number = n; from = i; text = 0; children = n; code = 256 }
+
+abbrev pub arrayRow : (kind count start code : ℕ) → Row
+arrayRow k n i c = record { kind = k; number = named n (kindOf c); from = i; text = 0; children = n; code = c }
 
 -- the code of a step, and where what stands behind it begins
 pub record CodeFound (bytes : List ℕ) (s : Answer Step) (c : Code) : Type 0 where

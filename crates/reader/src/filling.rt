@@ -4,12 +4,13 @@
 // children of a list, or that all stand behind one code, as the elements of an array. The run on top is in variables, those
 // below it are kept in two arrays. A run that is used up is not kept, so there are never more runs than a value has levels.
 ghost use mathlib.Core.Path.{_≡_};
-ghost use Prim.Native.Nat.{_+_, _-_, _≤_, _<_};
+ghost use Prim.Native.Nat.{_+_, _-_, _^_, _≤_, _<_};
 ghost use mathlib.Core.Bool.{_||_};
 ghost use lib.Dec.{T, eqb};
 ghost use lib.ListN.{length, take, drop};
 ghost use lib.Seq.{sets};
-ghost use Rattle.standard.specs.Codes.{kindOf, layoutOf, scalar, compound, array, whole, small, sized};
+ghost use Rattle.standard.specs.Codes.{kindOf, layoutOf, element, scalar, compound, array, whole, small, sized};
+ghost use Rattle.standard.specs.Kinds.{named};
 ghost use Rattle.standard.specs.Grammar.{extend};
 ghost use Rattle.standard.specs.Read.{front};
 ghost use Rattle.standard.specs.Outcomes.{levelMost, over};
@@ -75,9 +76,9 @@ fn leaf(kind: u64, number: u64, from: usize, text: usize) -> Row
     }
 }
 
-// A row with so many children, and no text.
-fn parent(kind: u64, count: u64, from: usize, code: u64) -> Row
-    ensures { λ r. ⌜ r ≡ parentRow kind count from code ⌝ }
+// A row with so many children that begin with their own codes, and no text.
+fn parent(kind: u64, count: u64, from: usize) -> Row
+    ensures { λ r. ⌜ r ≡ parentRow kind count from ⌝ }
 {
     Row {
         kind,
@@ -85,22 +86,58 @@ fn parent(kind: u64, count: u64, from: usize, code: u64) -> Row
         from,
         text: 0,
         children: count,
-        code,
+        code: OWN,
     }
 }
 
-// The row of an array, behind its code. A body with no elements is passed over; else its first byte is the elements' code.
+// The kind of an element code: the code itself, where it is that of the wide form.
+fn element_kind(code: u8) -> u64
+    requires { ⌜ T (element (layoutOf code)) ⌝ }
+    ensures { λ r. ⌜ r ≡ kindOf code ⌝ }
+{
+    match code {
+        format_code::SMALL_UINT => 0x70,
+        format_code::SMALL_ULONG => 0x80,
+        format_code::SMALL_INT => 0x71,
+        format_code::SMALL_LONG => 0x81,
+        format_code::BINARY_8 => 0xb0,
+        format_code::STRING_8 => 0xb1,
+        format_code::SYMBOL_8 => 0xb3,
+        format_code::LIST_8 => 0xd0,
+        format_code::MAP_8 => 0xd1,
+        format_code::ARRAY_8 => 0xf0,
+        _ => byte(code),
+    }
+}
+
+// The number of an array's row: how many elements it has, and their kind, by their code.
+fn array_number(count: u64, code: u8) -> u64
+    requires { ⌜ (count < 2 ^ 32) × T (element (layoutOf code)) ⌝ }
+    ensures { λ r. ⌜ r ≡ named count (kindOf code) ⌝ }
+{
+    count + kind::KIND_UNIT * element_kind(code)
+}
+
+// The row of an array, behind its code. The first byte of its body, if there is one, is the elements' code.
 fn array_row(bytes: &[u8], at: usize, kind: u64, width: usize) -> Row
     requires { ⌜ T (narrow width) × (at ≤ length (now bytes)) × Lands (behindStep kind (drop at (now bytes)) (array width)) ⌝ }
     ensures { λ r. ⌜ RowFound (now (bytes .entry)) (behindStep kind (drop at (now (bytes .entry))) (array width)) r ⌝ }
 {
+    let size = narrow_at(bytes, at, width) as usize;
     let count = narrow_at(bytes, at + width, width);
-    if count == 0 {
-        let size = narrow_at(bytes, at, width) as usize;
-        return leaf(kind, 0, at + width + size, 0);
-    }
     let body = at + width + width;
-    parent(kind, count, body + 1, byte(bytes[body]))
+    if size == width {
+        return leaf(kind, 0, body, 0);
+    }
+    let code = bytes[body];
+    Row {
+        kind,
+        number: array_number(count, code),
+        from: body + 1,
+        text: 0,
+        children: count,
+        code: byte(code),
+    }
 }
 
 // The row of a number, behind its code.
@@ -134,7 +171,7 @@ fn compound_row(bytes: &[u8], at: usize, kind: u64, width: usize) -> Row
     ensures { λ r. ⌜ RowFound (now (bytes .entry)) (behindStep kind (drop at (now (bytes .entry))) (compound width)) r ⌝ }
 {
     let count = narrow_at(bytes, at + width, width);
-    parent(kind, count, at + width + width, OWN)
+    parent(kind, count, at + width + width)
 }
 
 // The row of what stands behind a code, by its entry.
@@ -148,7 +185,7 @@ fn entry_row(bytes: &[u8], at: usize, code: u8) -> Row
     match layout {
         // No value begins so: this is never reached.
         Layout::Unknown => leaf(0, 0, at, 0),
-        Layout::Described => parent(kind, 2, at, OWN),
+        Layout::Described => parent(kind, 2, at),
         Layout::Constant(number) => leaf(kind, number, at, 0),
         Layout::Whole(width) => whole_row(bytes, at, kind, width),
         Layout::Small(width) => small_row(bytes, at, kind, width),
@@ -165,7 +202,7 @@ fn row_behind(bytes: &[u8], at: usize, code: u8) -> Row
     ensures { λ r. ⌜ RowFound (now (bytes .entry)) (behindStep (kindOf code) (drop at (now (bytes .entry))) (layoutOf code)) r ⌝ }
 {
     match code {
-        format_code::DESCRIBED => parent(0x00, 2, at, OWN),
+        format_code::DESCRIBED => parent(0x00, 2, at),
         format_code::NULL => whole_row(bytes, at, 0x40, 0),
         format_code::TRUE => leaf(0x56, 1, at, 0),
         format_code::FALSE => leaf(0x56, 0, at, 0),

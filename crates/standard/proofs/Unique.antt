@@ -28,6 +28,7 @@ use Rattle.standard.proofs.format_code.«entry_of» as «entry_of»
 use Rattle.standard.proofs.kind.«style_of» as «style_of»
 use Rattle.standard.proofs.kind.«is_fair» as «is_fair»
 use Rattle.standard.proofs.kind.«fits_width» as «fits_width»
+use Rattle.standard.proofs.kind.«is_nameable» as «is_nameable»
 use Rattle.standard.proofs.kind.«fits_byte» as «fits_byte»
 use Rattle.standard.proofs.kind.Style.«is_kind» as «is_kind»
 use Rattle.standard.proofs.kind.Style.«is_member» as «is_member»
@@ -133,6 +134,9 @@ module _ {M : Type 1} (𝓤 : URA M) (H : Heap 𝓤) (κs : Lfts 0) (A : Atoms �
 
   pub children-promise : (s : Style) (n r : ℕ) → children.ensures-1 𝓤 H κs A mem run s n (record { entry = s; exit = s }) (record { entry = n; exit = n }) r ≡ fact 𝓤 (r ≡ Table.children (styleIs s) n)
   children-promise s n r = refl
+
+  pub nameable-promise : (k : ℕ) (r : Bool) → «is_nameable».ensures-1 𝓤 H κs A mem run k (record { entry = k; exit = k }) r ≡ fact 𝓤 (r ≡ Kinds.nameable k)
+  nameable-promise k r = refl
 
   pub takes-promise : (s : Style) (k n : ℕ) (r : Bool) → takes.ensures-1 𝓤 H κs A mem run s k n (record { entry = s; exit = s }) (record { entry = k; exit = k }) (record { entry = n; exit = n }) r ≡ fact 𝓤 (r ≡ Table.ranged (styleIs s) k n)
   takes-promise s k n r = refl

@@ -8,7 +8,7 @@ use lib.ListN.{length}
 use Rattle.standard.specs.Choose.{if}
 use Rattle.standard.specs.Bytes.{be}
 use Rattle.standard.specs.Tree.{Tree, node, Trees, none, more}
-use Rattle.standard.specs.Kinds.{Short, never, flag, unsigned, signed, Style, foreign, numbered, blob, lettered, listed, mapped, arrayed, describing, styleOf}
+use Rattle.standard.specs.Kinds.{Short, never, flag, unsigned, signed, Style, foreign, numbered, blob, lettered, listed, mapped, arrayed, describing, styleOf, countIn, kindIn}
 
 -- does a number of w bytes, two's complement, fit one byte: from −128 to 127
 unfoldable pub fitsByte : (width number : ℕ) → Bool
@@ -29,7 +29,7 @@ shortEnd = 255
 unfoldable pub enclosed : (short wide count : ℕ) → (body : List ℕ) → List ℕ
 enclosed s k n b = if (ltb (length b) shortEnd) (s ∷ be 1 (1 + length b) ++ be 1 n ++ b) (k ∷ be 4 (4 + length b) ++ be 4 n ++ b)
 
--- what a row is written to, given the bytes of its children as values and as elements
+-- what a row is written to, given the bytes of its children as values and as elements; an array's element code is its elements' kind
 unfoldable pub compact : Style → (kind number : ℕ) → (text body elements : List ℕ) → List ℕ
 compact foreign k n t b a = []
 compact (numbered s w) k n t b a = shortest s w k n
@@ -37,7 +37,7 @@ compact (blob w) k n t b a = k ∷ t
 compact (lettered s) k n t b a = if (ltb n shortEnd) (s ∷ be 1 n ++ t) (k ∷ be 4 n ++ t)
 compact (listed e s) k n t b a = if (eqb n 0) (e ∷ []) (enclosed s k n b)
 compact (mapped s) k n t b a = enclosed s k n b
-compact (arrayed s) k n t b a = enclosed s k n a
+compact (arrayed s) k n t b a = enclosed s k (countIn n) (kindIn n ∷ a)
 compact describing k n t b a = k ∷ b
 
 -- what stands behind the kind's own code, in full width: what an element of an array is written to (docs/FORMAT.md, 3.6)
@@ -48,18 +48,13 @@ wide (blob w) n t b a = t
 wide (lettered s) n t b a = be 4 n ++ t
 wide (listed e s) n t b a = be 4 (4 + length b) ++ be 4 n ++ b
 wide (mapped s) n t b a = be 4 (4 + length b) ++ be 4 n ++ b
-wide (arrayed s) n t b a = be 4 (4 + length a) ++ be 4 n ++ a
+wide (arrayed s) n t b a = be 4 (4 + length (kindIn n ∷ a)) ++ be 4 (countIn n) ++ (kindIn n ∷ a)
 wide describing n t b a = b
-
--- the payloads of elements behind the elements' code, which is the first one's kind; nothing where there are none
-unfoldable pub headed : Trees → (payloads : List ℕ) → List ℕ
-headed none b = []
-headed (more (node k n t cs) vs) b = k ∷ b
 
 unfoldable mutual
   -- the bytes of a value
   pub encode : Tree → List ℕ
-  encode (node k n t cs) = compact (styleOf k) k n t (encode* cs) (headed cs (payloads cs))
+  encode (node k n t cs) = compact (styleOf k) k n t (encode* cs) (payloads cs)
 
   pub encode* : Trees → List ℕ
   encode* none = []
@@ -67,7 +62,7 @@ unfoldable mutual
 
   -- the bytes of an element behind its array's element code
   pub item : Tree → List ℕ
-  item (node k n t cs) = wide (styleOf k) n t (encode* cs) (headed cs (payloads cs))
+  item (node k n t cs) = wide (styleOf k) n t (encode* cs) (payloads cs)
 
   pub payloads : Trees → List ℕ
   payloads none = []

@@ -8,13 +8,13 @@ use Rattle.standard.specs.Choose.{lookup}
 use Rattle.standard.specs.Bytes.{be, spell}
 use Rattle.standard.specs.Text.{flawless, fault, faultIn, faultDue, leadIn, utf8, ascii}
 use Rattle.standard.specs.Codes.{codes, entryOf, isCode, filled, element}
-use Rattle.standard.specs.Kinds.{kinds, styleOf, isKind, member, fair, flaw, paired}
+use Rattle.standard.specs.Kinds.{kinds, styleOf, isKind, member, fair, flaw, paired, nameable, named, countIn, kindIn}
 use Rattle.standard.specs.Tree.{rows, text, tall, count}
 use Rattle.standard.specs.Grammar.{extend, negative}
 use Rattle.standard.specs.Read.{cut, plain, leaf, many, done, fields, held, items, inside, coded, behind, payload, value, front}
-use Rattle.standard.specs.Table.{allowed, ranged, letters, children, firstIn, next, letter, several, row, tree, spent, table}
-use Rattle.standard.specs.Encode.{encode, compact, shortest, headed, item, payloads, wide, enclosed, fitsByte}
-use Rattle.standard.specs.Outcomes.{bytesOf, size, Extent, measure, Reading, readInto, read}
+use Rattle.standard.specs.Table.{allowed, naming, ranged, letters, children, spotIn, letter, several, row, tree, spent, table}
+use Rattle.standard.specs.Encode.{encode, compact, shortest, item, payloads, wide, enclosed, fitsByte}
+use Rattle.standard.specs.Outcomes.{bytesOf, size, Extent, measure, readInto, read}
 use Rattle.standard.specs.Listing.{decimalIn, hexDigit, hex, line, lines, shown, listing}
 
 pub record Example : Type 0 where
@@ -25,7 +25,7 @@ pub record Example : Type 0 where
 abbrev example : (words letters bytes : List ℕ) → Example
 example w x b = record { words = w; letters = x; bytes = b }
 
--- uint 255 and 256, int −128 and −129, a list of one null, the empty map, the empty array, a map, an array of uints, an array of strings, a described list
+-- uint 255 and 256, int −128 and −129, a list of one null, the empty map, the empty array of uints, a map, an array of uints, an array of strings, a described list
 unfoldable pub examples : List Example
 examples =
     example (0x70 ∷ 255 ∷ []) [] (0x52 ∷ 0xff ∷ [])
@@ -34,10 +34,10 @@ examples =
     ∷ example (0x71 ∷ 0xffffff7f ∷ []) [] (0x71 ∷ 0xff ∷ 0xff ∷ 0xff ∷ 0x7f ∷ [])
     ∷ example (0xd0 ∷ 1 ∷ 0x40 ∷ 0 ∷ []) [] (0xc0 ∷ 2 ∷ 1 ∷ 0x40 ∷ [])
     ∷ example (0xd1 ∷ 0 ∷ []) [] (0xc1 ∷ 1 ∷ 0 ∷ [])
-    ∷ example (0xf0 ∷ 0 ∷ []) [] (0xe0 ∷ 1 ∷ 0 ∷ [])
+    ∷ example (0xf0 ∷ named 0 0x70 ∷ []) [] (0xe0 ∷ 2 ∷ 0 ∷ 0x70 ∷ [])
     ∷ example (0xd1 ∷ 2 ∷ 0xb3 ∷ 1 ∷ 0x70 ∷ 2 ∷ []) (0x76 ∷ []) (0xc1 ∷ 6 ∷ 2 ∷ 0xa3 ∷ 1 ∷ 0x76 ∷ 0x52 ∷ 2 ∷ [])
-    ∷ example (0xf0 ∷ 2 ∷ 0x70 ∷ 0 ∷ 0x70 ∷ 1 ∷ []) [] (0xe0 ∷ 0x0a ∷ 2 ∷ 0x70 ∷ 0 ∷ 0 ∷ 0 ∷ 0 ∷ 0 ∷ 0 ∷ 0 ∷ 1 ∷ [])
-    ∷ example (0xf0 ∷ 1 ∷ 0xb1 ∷ 5 ∷ []) (0xc3 ∷ 0x98 ∷ 0x31 ∷ 0x2e ∷ 0x32 ∷ []) (0xe0 ∷ 0x0b ∷ 1 ∷ 0xb1 ∷ 0 ∷ 0 ∷ 0 ∷ 5 ∷ 0xc3 ∷ 0x98 ∷ 0x31 ∷ 0x2e ∷ 0x32 ∷ [])
+    ∷ example (0xf0 ∷ named 2 0x70 ∷ 0x70 ∷ 0 ∷ 0x70 ∷ 1 ∷ []) [] (0xe0 ∷ 0x0a ∷ 2 ∷ 0x70 ∷ 0 ∷ 0 ∷ 0 ∷ 0 ∷ 0 ∷ 0 ∷ 0 ∷ 1 ∷ [])
+    ∷ example (0xf0 ∷ named 1 0xb1 ∷ 0xb1 ∷ 5 ∷ []) (0xc3 ∷ 0x98 ∷ 0x31 ∷ 0x2e ∷ 0x32 ∷ []) (0xe0 ∷ 0x0b ∷ 1 ∷ 0xb1 ∷ 0 ∷ 0 ∷ 0 ∷ 5 ∷ 0xc3 ∷ 0x98 ∷ 0x31 ∷ 0x2e ∷ 0x32 ∷ [])
     ∷ example (0x00 ∷ 2 ∷ 0x80 ∷ 36 ∷ 0xd0 ∷ 0 ∷ []) [] (0x00 ∷ 0x53 ∷ 0x24 ∷ 0x45 ∷ [])
     ∷ []
 
@@ -51,27 +51,39 @@ _and_ a b = (a, b)
 infixr 20 _and_
 -- every example is written to its bytes
 pub proved-set : Written examples
-unfolding examples bytesOf table tree row several letter spent allowed ranged letters children firstIn next styleOf lookup kinds isKind member fair flaw faultDue leadIn utf8 ascii encode compact shortest headed item payloads wide enclosed fitsByte be count
+unfolding examples bytesOf table tree row several letter spent allowed naming nameable ranged letters children spotIn styleOf lookup kinds isKind member fair flaw faultDue leadIn utf8 ascii encode compact shortest item payloads wide enclosed fitsByte be count named countIn kindIn
 proved-set = refl and refl and refl and refl and refl and refl and refl and refl and refl and refl and refl and tt
 
 -- Arrays of compounds: two small lists, empty lists around one of a null, two maps, two arrays with elements of different kinds, two empty arrays
 unfoldable pub nested : List Example
 nested =
-    example (0xf0 ∷ 2 ∷ 0xd0 ∷ 1 ∷ 0x70 ∷ 1 ∷ 0xd0 ∷ 2 ∷ 0x70 ∷ 2 ∷ 0x70 ∷ 0 ∷ []) [] (0xe0 ∷ 0x17 ∷ 2 ∷ 0xd0 ∷ 0 ∷ 0 ∷ 0 ∷ 6 ∷ 0 ∷ 0 ∷ 0 ∷ 1 ∷ 0x52 ∷ 1 ∷ 0 ∷ 0 ∷ 0 ∷ 7 ∷ 0 ∷ 0 ∷ 0 ∷ 2 ∷ 0x52 ∷ 2 ∷ 0x43 ∷ [])
-    ∷ example (0xf0 ∷ 3 ∷ 0xd0 ∷ 0 ∷ 0xd0 ∷ 1 ∷ 0x40 ∷ 0 ∷ 0xd0 ∷ 0 ∷ []) [] (0xe0 ∷ 0x1b ∷ 3 ∷ 0xd0 ∷ 0 ∷ 0 ∷ 0 ∷ 4 ∷ 0 ∷ 0 ∷ 0 ∷ 0 ∷ 0 ∷ 0 ∷ 0 ∷ 5 ∷ 0 ∷ 0 ∷ 0 ∷ 1 ∷ 0x40 ∷ 0 ∷ 0 ∷ 0 ∷ 4 ∷ 0 ∷ 0 ∷ 0 ∷ 0 ∷ [])
-    ∷ example (0xf0 ∷ 2 ∷ 0xd1 ∷ 2 ∷ 0xb3 ∷ 1 ∷ 0x70 ∷ 2 ∷ 0xd1 ∷ 0 ∷ []) (0x76 ∷ []) (0xe0 ∷ 0x17 ∷ 2 ∷ 0xd1 ∷ 0 ∷ 0 ∷ 0 ∷ 9 ∷ 0 ∷ 0 ∷ 0 ∷ 2 ∷ 0xa3 ∷ 1 ∷ 0x76 ∷ 0x52 ∷ 2 ∷ 0 ∷ 0 ∷ 0 ∷ 4 ∷ 0 ∷ 0 ∷ 0 ∷ 0 ∷ [])
-    ∷ example (0xf0 ∷ 2 ∷ 0xf0 ∷ 1 ∷ 0x50 ∷ 5 ∷ 0xf0 ∷ 2 ∷ 0x56 ∷ 1 ∷ 0x56 ∷ 0 ∷ []) [] (0xe0 ∷ 0x17 ∷ 2 ∷ 0xf0 ∷ 0 ∷ 0 ∷ 0 ∷ 6 ∷ 0 ∷ 0 ∷ 0 ∷ 1 ∷ 0x50 ∷ 5 ∷ 0 ∷ 0 ∷ 0 ∷ 7 ∷ 0 ∷ 0 ∷ 0 ∷ 2 ∷ 0x56 ∷ 1 ∷ 0 ∷ [])
-    ∷ example (0xf0 ∷ 2 ∷ 0xf0 ∷ 0 ∷ 0xf0 ∷ 0 ∷ []) [] (0xe0 ∷ 0x12 ∷ 2 ∷ 0xf0 ∷ 0 ∷ 0 ∷ 0 ∷ 4 ∷ 0 ∷ 0 ∷ 0 ∷ 0 ∷ 0 ∷ 0 ∷ 0 ∷ 4 ∷ 0 ∷ 0 ∷ 0 ∷ 0 ∷ [])
+    example (0xf0 ∷ named 2 0xd0 ∷ 0xd0 ∷ 1 ∷ 0x70 ∷ 1 ∷ 0xd0 ∷ 2 ∷ 0x70 ∷ 2 ∷ 0x70 ∷ 0 ∷ []) [] (0xe0 ∷ 0x17 ∷ 2 ∷ 0xd0 ∷ 0 ∷ 0 ∷ 0 ∷ 6 ∷ 0 ∷ 0 ∷ 0 ∷ 1 ∷ 0x52 ∷ 1 ∷ 0 ∷ 0 ∷ 0 ∷ 7 ∷ 0 ∷ 0 ∷ 0 ∷ 2 ∷ 0x52 ∷ 2 ∷ 0x43 ∷ [])
+    ∷ example (0xf0 ∷ named 3 0xd0 ∷ 0xd0 ∷ 0 ∷ 0xd0 ∷ 1 ∷ 0x40 ∷ 0 ∷ 0xd0 ∷ 0 ∷ []) [] (0xe0 ∷ 0x1b ∷ 3 ∷ 0xd0 ∷ 0 ∷ 0 ∷ 0 ∷ 4 ∷ 0 ∷ 0 ∷ 0 ∷ 0 ∷ 0 ∷ 0 ∷ 0 ∷ 5 ∷ 0 ∷ 0 ∷ 0 ∷ 1 ∷ 0x40 ∷ 0 ∷ 0 ∷ 0 ∷ 4 ∷ 0 ∷ 0 ∷ 0 ∷ 0 ∷ [])
+    ∷ example (0xf0 ∷ named 2 0xd1 ∷ 0xd1 ∷ 2 ∷ 0xb3 ∷ 1 ∷ 0x70 ∷ 2 ∷ 0xd1 ∷ 0 ∷ []) (0x76 ∷ []) (0xe0 ∷ 0x17 ∷ 2 ∷ 0xd1 ∷ 0 ∷ 0 ∷ 0 ∷ 9 ∷ 0 ∷ 0 ∷ 0 ∷ 2 ∷ 0xa3 ∷ 1 ∷ 0x76 ∷ 0x52 ∷ 2 ∷ 0 ∷ 0 ∷ 0 ∷ 4 ∷ 0 ∷ 0 ∷ 0 ∷ 0 ∷ [])
+    ∷ example (0xf0 ∷ named 2 0xf0 ∷ 0xf0 ∷ named 1 0x50 ∷ 0x50 ∷ 5 ∷ 0xf0 ∷ named 2 0x56 ∷ 0x56 ∷ 1 ∷ 0x56 ∷ 0 ∷ []) [] (0xe0 ∷ 0x17 ∷ 2 ∷ 0xf0 ∷ 0 ∷ 0 ∷ 0 ∷ 6 ∷ 0 ∷ 0 ∷ 0 ∷ 1 ∷ 0x50 ∷ 5 ∷ 0 ∷ 0 ∷ 0 ∷ 7 ∷ 0 ∷ 0 ∷ 0 ∷ 2 ∷ 0x56 ∷ 1 ∷ 0 ∷ [])
+    ∷ example (0xf0 ∷ named 2 0xf0 ∷ 0xf0 ∷ named 0 0x70 ∷ 0xf0 ∷ named 0 0xb1 ∷ []) [] (0xe0 ∷ 0x14 ∷ 2 ∷ 0xf0 ∷ 0 ∷ 0 ∷ 0 ∷ 5 ∷ 0 ∷ 0 ∷ 0 ∷ 0 ∷ 0x70 ∷ 0 ∷ 0 ∷ 0 ∷ 5 ∷ 0 ∷ 0 ∷ 0 ∷ 0 ∷ 0xb1 ∷ [])
     ∷ []
 
 pub nested-set : Written nested
-unfolding nested bytesOf table tree row several letter spent allowed ranged letters children firstIn next styleOf lookup kinds isKind member fair flaw faultDue leadIn ascii encode compact shortest headed item payloads wide enclosed fitsByte be count
+unfolding nested bytesOf table tree row several letter spent allowed naming nameable ranged letters children spotIn styleOf lookup kinds isKind member fair flaw faultDue leadIn ascii encode compact shortest item payloads wide enclosed fitsByte be count named countIn kindIn
 nested-set = refl and refl and refl and refl and refl and tt
 
--- an element unlike the first, and a described one, are refused at their rows
-unlike : (size 32 (0xf0 ∷ 2 ∷ 0xd0 ∷ 0 ∷ 0xd1 ∷ 0 ∷ []) [] ≡ refuse 4 (at 2)) × (size 32 (0xf0 ∷ 1 ∷ 0x00 ∷ 2 ∷ []) [] ≡ refuse 4 (at 1))
-unfolding size bytesOf table tree row several letter spent allowed ranged letters children firstIn next styleOf lookup kinds isKind member fair flaw
-unlike = (refl, refl)
+-- an element of another kind than the array names is refused at its row; a kind that arrays cannot hold is 4 at the array's, before its count is looked at; a kind
+-- that is not told, or is none of the 25, and a count out of range are 5
+unlike : map (λ w. size 32 w []) (
+    (0xf0 ∷ named 2 0xd0 ∷ 0xd0 ∷ 0 ∷ 0xd1 ∷ 0 ∷ [])
+    ∷ (0xf0 ∷ named 1 0xd0 ∷ 0x00 ∷ 2 ∷ [])
+    ∷ (0xf0 ∷ named 1 0x70 ∷ 0x40 ∷ 0 ∷ [])
+    ∷ (0xf0 ∷ named 0 0x40 ∷ [])
+    ∷ (0xf0 ∷ named 1048577 0x40 ∷ [])
+    ∷ (0xf0 ∷ named 0 0 ∷ [])
+    ∷ (0xf0 ∷ named 1 0 ∷ 0x00 ∷ 2 ∷ [])
+    ∷ (0xf0 ∷ named 0 0x52 ∷ [])
+    ∷ (0xf0 ∷ named 0 0x170 ∷ [])
+    ∷ (0xf0 ∷ named 1048577 0x70 ∷ [])
+    ∷ []) ≡ refuse 4 (at 2) ∷ refuse 4 (at 1) ∷ refuse 4 (at 1) ∷ refuse 4 (at 0) ∷ refuse 4 (at 0) ∷ refuse 5 (at 0) ∷ refuse 5 (at 0) ∷ refuse 5 (at 0) ∷ refuse 5 (at 0) ∷ refuse 5 (at 0) ∷ []
+unfolding size bytesOf table tree row several letter spent allowed naming nameable ranged letters children spotIn styleOf lookup kinds isKind member fair flaw named countIn kindIn
+unlike = refl
 
 -- Reading, by measuring: a value's length, rows and text, or the refusal
 
@@ -127,13 +139,18 @@ answers =
     ∷ []
 
 reading : map (measure 32) inputs ≡ answers
-unfolding inputs answers fits lookup spell faultDue leadIn utf8 ascii codes entryOf isCode filled element fair flaw paired tall text extend negative cut plain leaf many done fields held items inside coded behind payload value front measure
+unfolding inputs answers fits lookup spell faultDue leadIn utf8 ascii codes entryOf isCode filled element fair flaw paired tall text extend negative cut plain leaf many done fields held items inside coded behind payload value front measure named
 reading = refl
 
 -- an array with element code c0 reads to its lists: the first holds a null, the second nothing
-shortElements : read 32 (0xe0 ∷ 7 ∷ 2 ∷ 0xc0 ∷ 2 ∷ 1 ∷ 0x40 ∷ 1 ∷ 0 ∷ []) (replicate 8 0xff) [] ≡ record { answer = fits 9 4 0; words = 0xf0 ∷ 2 ∷ 0xd0 ∷ 1 ∷ 0x40 ∷ 0 ∷ 0xd0 ∷ 0 ∷ []; letters = [] }
-unfolding fits read readInto lookup spell codes entryOf isCode filled element fair flaw paired tall rows text cut plain leaf many done fields held items inside coded behind payload value front
+shortElements : read 32 (0xe0 ∷ 7 ∷ 2 ∷ 0xc0 ∷ 2 ∷ 1 ∷ 0x40 ∷ 1 ∷ 0 ∷ []) (replicate 8 0xff) [] ≡ record { answer = fits 9 4 0; words = 0xf0 ∷ named 2 0xd0 ∷ 0xd0 ∷ 1 ∷ 0x40 ∷ 0 ∷ 0xd0 ∷ 0 ∷ []; letters = [] }
+unfolding fits read readInto lookup spell codes entryOf isCode filled element fair flaw paired tall rows text cut plain leaf many done fields held items inside coded behind payload value front named
 shortElements = refl
+
+-- empty arrays: the kind not told, and told by the kind's own code or by a short one
+emptyArrays : map (λ r. read 32 r (0xff ∷ 0xff ∷ []) [] .words) ((0xe0 ∷ 1 ∷ 0 ∷ []) ∷ (0xe0 ∷ 2 ∷ 0 ∷ 0x70 ∷ []) ∷ (0xe0 ∷ 2 ∷ 0 ∷ 0x52 ∷ []) ∷ []) ≡ (0xf0 ∷ 0 ∷ []) ∷ (0xf0 ∷ named 0 0x70 ∷ []) ∷ (0xf0 ∷ named 0 0x70 ∷ []) ∷ []
+unfolding read readInto lookup spell codes entryOf isCode filled element fair flaw paired tall rows text cut plain leaf many done fields held items inside coded behind payload value front named
+emptyArrays = refl
 
 -- in an array, at any depth, a refusal has the outermost array's place: a bad boolean in an array in an array in a list; an unknown code, an odd map, a byte
 -- left, a size too small and one too large in an element; the empty list's own code, whose payload is empty, is no element code
@@ -146,12 +163,12 @@ nestedFaults : map (measure 32) (
     ∷ (0xe0 ∷ 4 ∷ 1 ∷ 0xc0 ∷ 2 ∷ 0 ∷ 0x40 ∷ [])
     ∷ (0xe0 ∷ 2 ∷ 1 ∷ 0x45 ∷ [])
     ∷ []) ≡ refuse 11 (at 3) ∷ refuse 10 (at 0) ∷ refuse 12 (at 0) ∷ refuse 12 (at 0) ∷ refuse 12 (at 0) ∷ refuse 9 (at 0) ∷ refuse 4 (at 0) ∷ []
-unfolding fits lookup spell codes entryOf isCode filled element fair flaw paired extend negative cut plain leaf many done fields held items inside coded behind payload value front measure
+unfolding fits lookup spell codes entryOf isCode filled element fair flaw paired extend negative cut plain leaf many done fields held items inside coded behind payload value front measure named
 nestedFaults = refl
 
 -- an array at level 31: an empty list is its element at level 32, but a list with a child is not
 nestedLevels : map (λ r. measure 32 (replicate 30 0x00 ++ r)) ((0xe0 ∷ 4 ∷ 1 ∷ 0xc0 ∷ 1 ∷ 0 ∷ []) ∷ (0xe0 ∷ 5 ∷ 1 ∷ 0xc0 ∷ 2 ∷ 1 ∷ 0x40 ∷ []) ∷ []) ≡ refuse 9 (at 36) ∷ refuse 3 (at 30) ∷ []
-unfolding lookup spell codes entryOf isCode filled element paired cut plain leaf many done fields held items inside coded behind payload value front measure fair flaw tall text
+unfolding lookup spell codes entryOf isCode filled element paired cut plain leaf many done fields held items inside coded behind payload value front measure fair flaw tall text named
 nestedLevels = refl
 
 -- lists, one in the other: 32 are written to 94 bytes, and the 33rd is too deep, at its row
@@ -160,7 +177,7 @@ nest zero = 0xd0 ∷ 0 ∷ []
 nest (suc n) = 0xd0 ∷ 1 ∷ nest n
 
 deep : (size 32 (nest 31) [] ≡ got 94) × (size 32 (nest 32) [] ≡ refuse 3 (at 32))
-unfolding nest size bytesOf table tree row several letter spent allowed ranged letters children firstIn next styleOf lookup kinds isKind member fair flaw encode compact shortest headed item payloads wide enclosed fitsByte be count
+unfolding nest size bytesOf table tree row several letter spent allowed naming nameable ranged letters children spotIn styleOf lookup kinds isKind member fair flaw encode compact shortest item payloads wide enclosed fitsByte be count named countIn kindIn
 deep = (refl, refl)
 
 -- at level 32 a map's odd count is seen before the missing child; an array of count 0 is no fault, one of count 1 is too deep at its own place
@@ -168,7 +185,7 @@ under : List ℕ → List ℕ
 under r = replicate 31 0x00 ++ r
 
 lastLevel : map (λ r. measure 32 (under r)) ((0xc1 ∷ 1 ∷ 1 ∷ []) ∷ (0xc1 ∷ 1 ∷ 2 ∷ []) ∷ (0xe0 ∷ 2 ∷ 1 ∷ 0x46 ∷ []) ∷ (0xe0 ∷ 1 ∷ 0 ∷ []) ∷ []) ≡ refuse 12 (at 31) ∷ refuse 3 (at 34) ∷ refuse 3 (at 31) ∷ refuse 9 (at 34) ∷ []
-unfolding under lookup spell codes entryOf isCode filled element paired extend negative cut plain leaf many done fields held items inside coded behind payload value front measure fair flaw tall text
+unfolding under lookup spell codes entryOf isCode filled element paired extend negative cut plain leaf many done fields held items inside coded behind payload value front measure fair flaw tall text named
 lastLevel = refl
 
 -- the edges of RFC 3629: the last good and the first bad second byte of each row, stray and missing bytes, and the place of the first fault
@@ -200,12 +217,19 @@ listed : listing 32 (0xc1 ∷ 6 ∷ 2 ∷ 0xa3 ∷ 1 ∷ 0x76 ∷ 0x52 ∷ 2 ∷
     ∷ 49 ∷ 32 ∷ 98 ∷ 51 ∷ 32 ∷ 49 ∷ 10
     ∷ 50 ∷ 32 ∷ 55 ∷ 48 ∷ 32 ∷ 50 ∷ 10
     ∷ 101 ∷ 110 ∷ 100 ∷ 32 ∷ 56 ∷ 10 ∷ []
-unfolding listing shown lines line decimalIn hex hexDigit lookup spell faultDue leadIn ascii codes entryOf isCode filled element fair flaw paired rows extend negative cut plain leaf many done fields held items inside coded behind payload value front
+unfolding listing shown lines line decimalIn hex hexDigit lookup spell faultDue leadIn ascii codes entryOf isCode filled element fair flaw paired rows extend negative cut plain leaf many done fields held items inside coded behind payload value front named
 listed = refl
+
+-- the listing of an empty array of uints: "0 f0 481036337152", "end 4"
+listedArray : listing 32 (0xe0 ∷ 2 ∷ 0 ∷ 0x70 ∷ []) ≡
+    48 ∷ 32 ∷ 102 ∷ 48 ∷ 32 ∷ 52 ∷ 56 ∷ 49 ∷ 48 ∷ 51 ∷ 54 ∷ 51 ∷ 51 ∷ 55 ∷ 49 ∷ 53 ∷ 50 ∷ 10
+    ∷ 101 ∷ 110 ∷ 100 ∷ 32 ∷ 52 ∷ 10 ∷ []
+unfolding listing shown lines line decimalIn hex hexDigit lookup spell codes entryOf isCode filled element paired rows cut plain leaf many done fields held items inside coded behind payload value front named
+listedArray = refl
 
 -- the longest text of the short form, and the shortest of the wide one
 limits : (size 32 (0xb0 ∷ 254 ∷ []) (replicate 254 0) ≡ got 256) × (size 32 (0xb0 ∷ 255 ∷ []) (replicate 255 0) ≡ got 260)
-unfolding size bytesOf table tree row several letter spent allowed ranged letters children firstIn next styleOf lookup kinds isKind member fair flaw encode compact shortest headed item payloads wide enclosed fitsByte be count
+unfolding size bytesOf table tree row several letter spent allowed naming nameable ranged letters children spotIn styleOf lookup kinds isKind member fair flaw encode compact shortest item payloads wide enclosed fitsByte be count named countIn kindIn
 limits = (refl, refl)
 
 -- 54 ff is −1, and 54 7f is 127

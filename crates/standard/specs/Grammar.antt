@@ -45,7 +45,7 @@ pub data Fields : (width count : ℕ) → (fields body : List ℕ) → Type 0 wh
 pub data Coded (P : (code : ℕ) → Tree → List ℕ → Type 0) : Tree → List ℕ → Type 0 where
   coded′ : {c : ℕ} {v : Tree} {bs : List ℕ} → P c v bs → Coded P v (c ∷ bs)
 
--- The body of an array: an element code and the elements' payloads, or nothing at all where there are none (docs/FORMAT.md, 4.4)
+-- The body of an array: an element code and the elements' payloads, or nothing at all where there are none and their kind is not told (docs/FORMAT.md, 4.4)
 pub data Items (P : (code : ℕ) → Tree → List ℕ → Type 0) : (count kind : ℕ) → Trees → List ℕ → Type 0 where
   empty′ : Items P 0 0 none []
   items′ : {n e : ℕ} {vs : Trees} {bs : List ℕ} → T (element (layoutOf e)) → Many (P e) n vs bs → Items P n (kindOf e) vs (e ∷ bs)

@@ -1,9 +1,9 @@
 -- The 25 kinds of rows: what the number and the text of each are held to, and how it is written (docs/FORMAT.md, 2.2 to 2.7 and 3).
 -- That this table and the one of Codes.antt say the same of every kind is `agreement` of Written.antt of `laws`.
-use Prim.Native.Nat.{ℕ, _%_}
+use Prim.Native.Nat.{ℕ, _+_, _*_, _/_, _%_}
 use mathlib.Core.Path.{_≡_, refl}
 use mathlib.Core.List.{List, [], _∷_}
-use mathlib.Core.Bool.{Bool, true, false, _&&_, _||_}
+use mathlib.Core.Bool.{Bool, true, false, not, _&&_, _||_}
 use lib.Dec.{eqb, leb}
 use lib.ListN.{length}
 use Rattle.standard.specs.Choose.{if, lookup}
@@ -32,6 +32,7 @@ pub data Style : Type 0 where
   -- the number of its children
   listed : (empty short : ℕ) → Style
   mapped : (short : ℕ) → Style
+  -- the number of its children, and their kind
   arrayed : (short : ℕ) → Style
   -- 2, its children: descriptor and value
   describing : Style
@@ -100,6 +101,10 @@ member (mapped s) = true
 member (arrayed s) = true
 member describing = false
 
+-- may the number of an array's row name that kind, as far as arrays can hold it: 0 names none, and what is no kind is refused for that
+unfoldable pub nameable : (kind : ℕ) → Bool
+nameable k = eqb k 0 || (not (isKind (styleOf k)) || member (styleOf k))
+
 -- Numbers and texts by kind, whether written or read (docs/FORMAT.md, 2.3 and 2.4)
 
 -- booleans, and characters but for the surrogates; all other numbers are held to their width alone
@@ -117,6 +122,17 @@ clean k t = isFlawless (flaw k t)
 unfoldable pub paired : (kind count : ℕ) → Bool
 paired k n = if (eqb k 0xd1) (eqb (n % 2) 0) true
 
--- The number of an array's row, from the count and the kind of its elements
-abbrev pub named : (count kind : ℕ) → ℕ
-named n k = n
+-- The number of an array's row: how many elements it has, and above that their kind, which is 0 where it is not told (docs/FORMAT.md, 2.6)
+
+abbrev kindUnit : ℕ
+kindUnit = 4294967296
+
+unfoldable pub named : (count kind : ℕ) → ℕ
+named n k = n + kindUnit * k
+
+-- the count and the kind in such a number
+unfoldable pub countIn : (number : ℕ) → ℕ
+countIn n = n % kindUnit
+
+unfoldable pub kindIn : (number : ℕ) → ℕ
+kindIn n = n / kindUnit

@@ -7,22 +7,26 @@ use lib.Dec.{T, eqb, leb, ltb}
 use lib.ListN.{length, take, drop}
 use Rattle.standard.specs.Answer.{Answer, got, refuse, at, _>>=_, _>>_, need, rowsAmiss, kindUnknown, tooDeep, elementUnfit, numberOutside, textAmiss}
 use Rattle.standard.specs.Utf8.{GoodText}
-use Rattle.standard.specs.Tree.{Tree, node, Trees, none, more, root, count}
-use Rattle.standard.specs.Kinds.{Style, foreign, numbered, blob, lettered, listed, mapped, arrayed, describing, styleOf, isKind, member, fair, clean}
+use Rattle.standard.specs.Tree.{Tree, node, Trees, none, more, count}
+use Rattle.standard.specs.Kinds.{Style, foreign, numbered, blob, lettered, listed, mapped, arrayed, describing, styleOf, isKind, member, nameable, fair, clean, countIn, kindIn}
 
 -- the writer's limit on lengths, counts and bytes (docs/FORMAT.md, 2.7)
 abbrev pub most : ℕ
 most = 1048576
 
--- Where a row stands: in no array, first in one, or behind elements of a kind
+-- Where a row stands: in no array, or in one whose elements have that kind
 pub data Spot : Type 0 where
-  any first : Spot
+  any : Spot
   like : (kind : ℕ) → Spot
 
 unfoldable pub allowed : Spot → (kind : ℕ) → Bool
 allowed any k = true
-allowed first k = member (styleOf k)
 allowed (like j) k = eqb k j
+
+-- may a row say that its children stand there: an array may not name a kind that arrays cannot hold
+unfoldable pub naming : Spot → Bool
+naming any = true
+naming (like j) = nameable j
 
 -- is a number in the table's range for its kind
 unfoldable pub ranged : Style → (kind number : ℕ) → Bool
@@ -32,7 +36,7 @@ ranged (blob w) k n = eqb n 0
 ranged (lettered s) k n = leb n most
 ranged (listed e s) k n = leb n most
 ranged (mapped s) k n = leb n most && eqb (n % 2) 0
-ranged (arrayed s) k n = leb n most
+ranged (arrayed s) k n = leb (countIn n) most && member (styleOf (kindIn n))
 ranged describing k n = eqb n 2
 
 -- how many bytes of text belong to a row
@@ -54,24 +58,19 @@ children (blob w) n = 0
 children (lettered s) n = 0
 children (listed e s) n = n
 children (mapped s) n = n
-children (arrayed s) n = n
+children (arrayed s) n = countIn n
 children describing n = n
 
--- the spot of a row's first child, and of the next behind one of kind k
-unfoldable pub firstIn : Style → (number : ℕ) → Spot
-firstIn foreign n = any
-firstIn (numbered s w) n = any
-firstIn (blob w) n = any
-firstIn (lettered s) n = any
-firstIn (listed e s) n = any
-firstIn (mapped s) n = any
-firstIn (arrayed s) n = first
-firstIn describing n = any
-
-unfoldable pub next : Spot → (kind : ℕ) → Spot
-next any k = any
-next first k = like k
-next (like j) k = like j
+-- the spot of a row's children
+unfoldable pub spotIn : Style → (number : ℕ) → Spot
+spotIn foreign n = any
+spotIn (numbered s w) n = any
+spotIn (blob w) n = any
+spotIn (lettered s) n = any
+spotIn (listed e s) n = any
+spotIn (mapped s) n = any
+spotIn (arrayed s) n = like (kindIn n)
+spotIn describing n = any
 
 -- What is asked of a row at a spot, with its text and its children
 pub record Row (c : Spot) (k n : ℕ) (t : List ℕ) (cs : Trees) : Type 0 where
@@ -82,15 +81,15 @@ pub record Row (c : Spot) (k n : ℕ) (t : List ℕ) (cs : Trees) : Type 0 where
   pub good : GoodText k t
   pub full : count cs ≡ children (styleOf k) n
 
--- each of these trees, from that spot on
+-- each of these trees, at that spot
 abbrev pub All : (Spot → Tree → Type 0) → Spot → Trees → Type 0
 All P c none = Unit {0}
-All P c (more v vs) = P c v × All P (next c (root v)) vs
+All P c (more v vs) = P c v × All P c vs
 
 -- A tree that a table can hold: of at most so many levels, at a spot
 abbrev pub Valid : (levels : ℕ) → Spot → Tree → Type 0
 Valid zero c v = ⊥
-Valid (suc l) c (node k n t cs) = Row c k n t cs × All (λ d v. Valid l d v) (firstIn (styleOf k) n) cs
+Valid (suc l) c (node k n t cs) = Row c k n t cs × All (λ d v. Valid l d v) (spotIn (styleOf k) n) cs
 
 -- the next w bytes of the text, for row i
 unfoldable pub letter : (row width : ℕ) → List ℕ → Answer (List ℕ × List ℕ)
@@ -98,22 +97,23 @@ letter i w x = do
   need (leb w (length x)) textAmiss (at i)
   got (take w x, drop w x)
 
--- so many values, the first at row i and at that spot, each taken by f
+-- so many values at that spot, the first at row i, each taken by f
 unfoldable pub several : (Spot → ℕ → List ℕ → List ℕ → Answer (Tree × List ℕ × List ℕ)) → Spot → (count row : ℕ) → (words text : List ℕ) → Answer (Trees × List ℕ × List ℕ)
 several f c zero i w x = got (none, w, x)
 several f c (suc n) i w x = do
   (v, u, y) ← f c i w x
-  (vs, r, z) ← several f (next c (root v)) n (i + (length w - length u) / 2) u y
+  (vs, r, z) ← several f c n (i + (length w - length u) / 2) u y
   got (more v vs, r, z)
 
 -- the value whose row i is of kind k with number n, and what is left of words and text
 unfoldable pub row : (Spot → ℕ → List ℕ → List ℕ → Answer (Tree × List ℕ × List ℕ)) → Spot → (row kind number : ℕ) → (words text : List ℕ) → Answer (Tree × List ℕ × List ℕ)
 row f c i k n w x = do
   need (allowed c k) elementUnfit (at i)
+  need (naming (spotIn (styleOf k) n)) elementUnfit (at i)
   need (ranged (styleOf k) k n) numberOutside (at i)
   (t, y) ← letter i (letters (styleOf k) n) x
   need (clean k t) textAmiss (at i)
-  (vs, r, z) ← several f (firstIn (styleOf k) n) (children (styleOf k) n) (i + 1) w y
+  (vs, r, z) ← several f (spotIn (styleOf k) n) (children (styleOf k) n) (i + 1) w y
   got (node k n t vs, r, z)
 
 -- the value at row i, of at most so many levels

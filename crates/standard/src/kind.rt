@@ -2,7 +2,7 @@
 ghost use mathlib.Core.Path.{_≡_};
 ghost use Prim.Native.Nat.{_-_, _^_, _≤_};
 ghost use lib.Dec.{ltb};
-ghost use Rattle.standard.specs.Kinds.{styleOf, isKind, member, fair};
+ghost use Rattle.standard.specs.Kinds.{styleOf, isKind, member, nameable, fair};
 ghost use Rattle.standard.specs.Encode.{fitsByte};
 ghost use Rattle.standard.specs.Table.{ranged, letters, children};
 ghost use Rattle.standard.specs.InCode.{styleIs};
@@ -79,6 +79,9 @@ pub fn style_of(kind: u64) -> Style
 // The writer's limit on lengths, counts and bytes.
 pub const MOST: u64 = 0x10_0000;
 
+// The number of an array's row is its count, and its elements' kind times this.
+pub const KIND_UNIT: u64 = 0x1_0000_0000;
+
 // No value stands beyond this level.
 pub const LEVELS: usize = 32;
 
@@ -149,6 +152,20 @@ pub fn fits_byte(number: u64, width: usize) -> bool
     least_negative(width) <= number
 }
 
+// May the number of an array's row name that kind, as far as arrays can hold it: 0 names none, and what is no kind is refused for that.
+pub fn is_nameable(kind: u64) -> bool
+    ensures { λ r. ⌜ r ≡ nameable kind ⌝ }
+{
+    if kind == 0 {
+        return true;
+    }
+    let style = style_of(kind);
+    if style.is_kind() {
+        return style.is_member();
+    }
+    true
+}
+
 impl Style {
     pub fn is_kind(self) -> bool
         ensures { λ r. ⌜ r ≡ isKind (styleIs self) ⌝ }
@@ -208,7 +225,7 @@ impl Style {
             Style::Lettered(_) => 0,
             Style::Listed(_, _) => number,
             Style::Mapped(_) => number,
-            Style::Arrayed(_) => number,
+            Style::Arrayed(_) => number % KIND_UNIT,
             Style::Describing => number,
         }
     }
@@ -234,7 +251,12 @@ impl Style {
                 }
                 false
             }
-            Style::Arrayed(_) => number <= MOST,
+            Style::Arrayed(_) => {
+                if number % KIND_UNIT <= MOST {
+                    return style_of(number / KIND_UNIT).is_member();
+                }
+                false
+            }
             Style::Describing => number == 2,
         }
     }

@@ -8,9 +8,12 @@ use native.Mathlib.Omega.{arith}
 use borrow.Author.Tests.{le-leb, lt-leb}
 use lib.ListN.{length, take, drop, getD}
 use lib.Seq.{drop-cons}
-use Rattle.standard.specs.Answer.{got, refuse, at, rowsAmiss, kindUnknown, tooDeep, elementUnfit, numberOutside, textAmiss}
+use Rattle.standard.specs.Answer.{Answer, got, refuse, at, _>>_, need, rowsAmiss, kindUnknown, tooDeep, elementUnfit, numberOutside, textAmiss}
 use Rattle.standard.specs.Kinds.{Style, styleOf, isKind, clean}
-use Rattle.standard.specs.Table.{Spot, allowed, ranged, letters}
+use Rattle.standard.specs.Table.{Spot, allowed, naming, spotIn, ranged, letters}
+use Rattle.standard.specs.Choose.{if}
+use Rattle.standard.specs.Facts.{T-true}
+use Rattle.laws.specs.Tables.{ranged-naming}
 use Rattle.writer.specs.Rows.{check}
 
 pub not-true : (b : Bool) → not b ≡ true → b ≡ false
@@ -52,26 +55,35 @@ module _ (c : Spot) (i k n : ℕ) (w x : List ℕ) where
     check-element zero h b = absurd (omega arith)
     check-element (suc l) h b = rw (a, b)
 
-    pub check-number : (l : ℕ) → 0 < l → allowed c k ≡ true → ranged (styleOf k) k n ≡ false → check l c i (k ∷ n ∷ w) x ≡ refuse numberOutside (at i)
+    -- 4 where an array tells a kind that arrays cannot hold, else 5
+    pub check-number : (l : ℕ) → 0 < l → allowed c k ≡ true → ranged (styleOf k) k n ≡ false → check l c i (k ∷ n ∷ w) x ≡ refuse (if (naming (spotIn (styleOf k) n)) numberOutside elementUnfit) (at i)
     unfolding check
     check-number zero h b d = absurd (omega arith)
-    check-number (suc l) h b d = rw (a, b, d)
+    check-number (suc l) h b d = rw (a, b, d) (go (naming (spotIn (styleOf k) n)))
+      where
+        go : (t : Bool) → _≡_ {A = Answer (ℕ × ℕ)} (_>>_ (need t elementUnfit (at i)) (refuse numberOutside (at i))) (refuse (if t numberOutside elementUnfit) (at i))
+        go true = refl
+        go false = refl
 
     module _ (b : allowed c k ≡ true) (d : ranged (styleOf k) k n ≡ true) where
+      -- a number in range names no kind that arrays cannot hold
+      names : naming (spotIn (styleOf k) n) ≡ true
+      names = T-true (naming (spotIn (styleOf k) n)) (ranged-naming (styleOf k) k n (rw d tt))
+
       pub check-short : (l : ℕ) → 0 < l → length x < letters (styleOf k) n → check l c i (k ∷ n ∷ w) x ≡ refuse textAmiss (at i)
       unfolding check
       check-short zero h e = absurd (omega arith)
-      check-short (suc l) h e = rw (a, b, d, lt-leb (letters (styleOf k) n) (length x) e)
+      check-short (suc l) h e = rw (a, b, names, d, lt-leb (letters (styleOf k) n) (length x) e)
 
       pub check-text : (l : ℕ) → 0 < l → letters (styleOf k) n ≤ length x → clean k (take (letters (styleOf k) n) x) ≡ false → check l c i (k ∷ n ∷ w) x ≡ refuse textAmiss (at i)
       unfolding check
       check-text zero h e f = absurd (omega arith)
-      check-text (suc l) h e f = rw (a, b, d, le-leb (letters (styleOf k) n) (length x) e, f)
+      check-text (suc l) h e f = rw (a, b, names, d, le-leb (letters (styleOf k) n) (length x) e, f)
 
       pub check-good : (l : ℕ) → 0 < l → letters (styleOf k) n ≤ length x → clean k (take (letters (styleOf k) n) x) ≡ true → check l c i (k ∷ n ∷ w) x ≡ got (k, n)
       unfolding check
       check-good zero h e f = absurd (omega arith)
-      check-good (suc l) h e f = rw (a, b, d, le-leb (letters (styleOf k) n) (length x) e, f)
+      check-good (suc l) h e f = rw (a, b, names, d, le-leb (letters (styleOf k) n) (length x) e, f)
 
 -- what was found of a row's text
 pub clean-part : (k m : ℕ) (x : List ℕ) (n : ℕ) (s : Style) (b d : Bool) → b ≡ clean k (take n x) → n ≡ letters s m → s ≡ styleOf k → b ≡ d → clean k (take (letters (styleOf k) m) x) ≡ d

@@ -1,16 +1,16 @@
 -- Rows that are written by their kind at once: what the arms of a match leave out, and the bytes that are all of a row.
-use Prim.Native.Nat.{ℕ, suc, _+_, _%_, _^_, _≤_, _<_}
-use mathlib.Core.Path.{_≡_, refl, sym, ap, _∙_}
+use Prim.Native.Nat.{ℕ, suc, _+_, _%_, _≤_}
+use mathlib.Core.Path.{_≡_, refl, sym}
 use mathlib.Core.List.{List, [], _∷_, _++_, append-nil}
 use mathlib.Core.Bool.{Bool, true, false}
-use mathlib.Core.Logic.{_⊎_, inl, inr, ⊎-elim}
+use mathlib.Core.Logic.{_⊎_, inl, inr}
 use native.Mathlib.Omega.{arith}
 use borrow.Author.Tests.{ne-eqb}
 use lib.Dec.{eqb, ltb}
 use lib.ListN.{length, take, drop, set, length-append, length-drop}
 use lib.Seq.{sets, length-take-le}
 use Rattle.standard.specs.Choose.{if, lookup}
-use Rattle.standard.specs.Bytes.{be, unbe}
+use Rattle.standard.specs.Bytes.{be}
 use Rattle.standard.specs.Kinds.{unsigned, Style, foreign, numbered, blob, lettered, listed, mapped, arrayed, describing, kind, kinds, styleOf}
 use Rattle.standard.specs.Table.{letters}
 use Rattle.standard.specs.Encode.{shortest}

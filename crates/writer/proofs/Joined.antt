@@ -1,12 +1,12 @@
 -- Values before others, and trees that may take more levels than they do.
 use Prim.Native.Nat.{ℕ, zero, suc, _+_, _*_, _≤_}
 use mathlib.Core.Path.{_≡_, refl, sym}
-use mathlib.Core.List.{List, [], _∷_, _++_, append-assoc}
+use mathlib.Core.List.{_++_, append-assoc}
 use native.Mathlib.Omega.{arith}
 use lib.ListN.{length, length-append}
-use Rattle.standard.specs.Tree.{Tree, node, Trees, none, more, root, count, rows, rows*, text, text*, tall, tall*}
+use Rattle.standard.specs.Tree.{Tree, node, Trees, none, more, count, rows, rows*, text, text*, tall*}
 use Rattle.standard.specs.Kinds.{styleOf}
-use Rattle.standard.specs.Table.{Spot, any, firstIn, next, All, Valid}
+use Rattle.standard.specs.Table.{Spot, any, spotIn, All, Valid}
 use Rattle.standard.specs.Encode.{encode, encode*}
 use Rattle.writer.specs.Marks.{marks, marks*}
 
@@ -48,7 +48,7 @@ pub size-join : (us vs : Trees) → length (encode* (join us vs)) ≡ length (en
 size-join us vs = rw (bytes-join us vs) (length-append (encode* us) (encode* vs))
 
 pub valid-join : (l : ℕ) (us vs : Trees) → All (λ d v. Valid l d v) any us → All (λ d v. Valid l d v) any vs → All (λ d v. Valid l d v) any (join us vs)
-unfolding join next
+unfolding join
 valid-join l none vs h i = i
 valid-join l (more v us) vs h i = (h .0, valid-join l us vs (h .1) i)
 
@@ -57,11 +57,11 @@ valid-join l (more v us) vs h i = (h .0, valid-join l us vs (h .1) i)
 mutual
   pub deeper : (v : Tree) (l : ℕ) (c : Spot) → Valid l c v → Valid (suc l) c v
   deeper (node k n t cs) zero c h = absurd h
-  deeper (node k n t cs) (suc l) c h = (h .0, deeper* cs l (firstIn (styleOf k) n) (h .1))
+  deeper (node k n t cs) (suc l) c h = (h .0, deeper* cs l (spotIn (styleOf k) n) (h .1))
 
   pub deeper* : (vs : Trees) (l : ℕ) (c : Spot) → All (λ d v. Valid l d v) c vs → All (λ d v. Valid (suc l) d v) c vs
   deeper* none l c h = tt
-  deeper* (more v vs) l c h = (deeper v l c (h .0), deeper* vs l (next c (root v)) (h .1))
+  deeper* (more v vs) l c h = (deeper v l c (h .0), deeper* vs l c (h .1))
 
 -- there are no more values than words
 pub few : (vs : Trees) → count vs ≤ length (rows* vs)

@@ -2,28 +2,28 @@
 use Prim.Native.Nat.{ℕ, zero, suc, _+_, _*_, _-_, _/_, _%_, _^_, _≤_, _<_}
 use mathlib.Core.Path.{_≡_, refl, sym, ap, _∙_, subst}
 use mathlib.Core.List.{List, [], _∷_, _++_, append-nil, append-assoc}
-use mathlib.Core.Bool.{Bool, true, false}
+use mathlib.Core.Bool.{Bool, true, false, _||_}
 use mathlib.Core.Logic.{⊎-elim}
 use native.Mathlib.Nat.{add-zero, add-suc, suc-add, mod-eq-of-lt}
 use native.Mathlib.Omega.{arith}
 use borrow.Author.Tests.{lt-ltb, ne-eqb}
 use mir.Val.{boolByte}
-use lib.Dec.{T, eqb, eqb→eq, eqb·suc-zero, ltb}
+use lib.Dec.{T, eqb, eqb→eq, eqb·suc-zero, leb, leb→le, ltb}
 use lib.ListN.{length, drop, getD, set, length-append, length-drop, length-set}
 use lib.Seq.{sets, length-sets, getD-drop, drop-drop, getD-set-same, getD-set-other}
 use Rattle.standard.specs.Choose.{if, lookup}
 use Rattle.standard.specs.Bytes.{be}
 use Rattle.standard.specs.Tree.{Tree, node, Trees, none, more, count, rows, rows*}
-use Rattle.standard.specs.Kinds.{Style, foreign, numbered, blob, lettered, listed, mapped, arrayed, describing, kinds, styleOf, isKind, member}
-use Rattle.standard.specs.Table.{most, Spot, any, first, like, ranged, letters, children, firstIn, next, Row, All, Valid}
-use Rattle.standard.specs.Encode.{shortEnd, encode, encode*, payloads, headed}
+use Rattle.standard.specs.Kinds.{Style, foreign, numbered, blob, lettered, listed, mapped, arrayed, describing, kinds, styleOf, isKind, member, countIn}
+use Rattle.standard.specs.Table.{most, Spot, any, like, ranged, letters, children, spotIn, Row, All, Valid}
+use Rattle.standard.specs.Encode.{shortEnd, encode, encode*, payloads}
 use Rattle.standard.specs.Outcomes.{levelMost}
-use Rattle.standard.specs.Facts.{T-true, if-case}
+use Rattle.standard.specs.Facts.{T-true, and-left, if-case}
 use Rattle.laws.specs.Numbers.{length-be}
 use Rattle.laws.specs.Stores.{sets-append}
 use Rattle.standard.proofs.Lookup.{Rest}
 use Rattle.writer.specs.Heads.{head, itemWidth, bodyOf, Mode, values, elements, modeIs, modeOf, headIn, written*}
-use Rattle.writer.specs.Direct.{numberHead}
+use Rattle.writer.specs.Direct.{isListOrMap, isArrayed, numberHead}
 use Rattle.writer.specs.Marks.{markWidth, marks, marks*}
 use Rattle.writer.specs.Marking.{boxes, boxWidth, kindOn, numberOn, bare, due, startOn, placeOn, leftOn, elementsOn, fromStart, beyond, closed, taken, stacked, Ready, Complete, Markable}
 use Rattle.writer.specs.declared.marking.Point.{Point}
@@ -31,11 +31,11 @@ use Rattle.writer.proofs.Tabled.{kindsOnto, other}
 use Rattle.writer.proofs.Bodies.{enclosed-width, item-wide, item-short, head-short, kind-small}
 use Rattle.writer.proofs.Direct.{number-front}
 use Rattle.writer.proofs.Joined.{join, count-join, rows-join, marks-join, size-join, valid-join, deeper*, few}
-use Rattle.writer.proofs.Spots.{Sure, sure-first, sure-next, next-mode, element-fits, row-bytes}
+use Rattle.writer.proofs.Spots.{Sure, sure-inside, element-fits, row-bytes}
 use Rattle.writer.proofs.Checks.{not-true}
 use Rattle.writer.proofs.Stores.{sets-swap}
-use Rattle.writer.proofs.Sizes.{named, is-named, between}
-use Rattle.writer.proofs.Sums.{more-size, elements-size}
+use Rattle.writer.proofs.Sizes.{named, is-named, between, array-long}
+use Rattle.writer.proofs.Sums.{more-size, body-is}
 
 -- How far marking has come: the bytes so far, the place of the next mark, and the buffer
 
@@ -55,8 +55,8 @@ abbrev pub over : Mode → Trees → Reach → Reach
 over m vs e = reach (e .size + length (written* m vs)) (e .mark + length (marks* vs)) (sets (e .buffer) (e .mark) (marks* vs))
 
 -- behind a compound, from its last child on
-abbrev pub shut : Mode → (start place : ℕ) → Reach → Reach
-shut m s p e = reach (e .size + boxWidth m (e .size - s)) (e .mark) (sets (e .buffer) p (be 3 (e .size - s)))
+abbrev pub shut : Mode → (array : Bool) → (start place : ℕ) → Reach → Reach
+shut m a s p e = reach (e .size + boxWidth m a (e .size - s)) (e .mark) (sets (e .buffer) p (be 3 (e .size - s)))
 
 none-over : (m : Mode) (e : Reach) → over m none e ≡ e
 unfolding encode* payloads marks*
@@ -72,12 +72,12 @@ pub record Run (levels left : ℕ) (b : Bool) (c : Spot) (vs : Trees) : Type 0 w
   pub sure : Sure c
   pub mode : modeOf c ≡ modeIs b
 
--- The compounds that are open, by their numbers on the stack, and the rows behind each: from e at the end of the innermost it goes on to z
-pub data Held (st : List ℕ) (z : Reach) : (top levels : ℕ) → (words : List ℕ) → Reach → Type 0 where
-  whole : length st ≡ 3 * levelMost → z .size ≤ most → z .mark ≤ length (z .buffer) → Held st z 0 levelMost [] z
-  inside : {top l : ℕ} {e : Reach} (c : Spot) (vs : Trees) (u : List ℕ) → 3 ≤ top → Run (suc l) (leftOn st top) (elementsOn st top) c vs → startOn st top ≤ e .size → placeOn st top + 3 ≤ length (e .buffer)
-      → Held st z (top - 3) (suc l) u (over (modeIs (elementsOn st top)) vs (shut (modeIs (elementsOn st top)) (startOn st top) (placeOn st top) e))
-      → Held st z top l (rows* vs ++ u) e
+-- The compounds that are open, by their numbers on the stack, and the rows behind each: from e at the end of the innermost, which may be an array, it goes on to z
+pub data Held (st : List ℕ) (z : Reach) : (top levels : ℕ) → (array : Bool) → (words : List ℕ) → Reach → Type 0 where
+  whole : {a : Bool} → length st ≡ 3 * levelMost → z .size ≤ most → z .mark ≤ length (z .buffer) → Held st z 0 levelMost a [] z
+  inside : {top l : ℕ} {a : Bool} {e : Reach} (c : Spot) (vs : Trees) (u : List ℕ) → 3 ≤ top → Run (suc l) (leftOn st top) (elementsOn st top) c vs → startOn st top ≤ e .size → placeOn st top + 3 ≤ length (e .buffer)
+      → Held st z (top - 3) (suc l) (elementsOn st top) u (over (modeIs (elementsOn st top)) vs (shut (modeIs (elementsOn st top)) a (startOn st top) (placeOn st top) e))
+      → Held st z top l a (rows* vs ++ u) e
 
 -- from a point on
 pub record Due (w : List ℕ) (z : Reach) (st o : List ℕ) (c : Point) : Type 0 where
@@ -87,20 +87,20 @@ pub record Due (w : List ℕ) (z : Reach) (st o : List ℕ) (c : Point) : Type 0
   pub behind : List ℕ
   pub run : Run levels (c .left) (c .elements) spot rest
   pub rowsAre : drop (2 * (c .row)) w ≡ rows* rest ++ behind
-  pub held : Held st z (c .top) levels behind (over (modeIs (c .elements)) rest (reach (c .size) (c .mark) o))
+  pub held : Held st z (c .top) levels (c .elements) behind (over (modeIs (c .elements)) rest (reach (c .size) (c .mark) o))
 
 -- The stack
 
-held-kept : {st a : List ℕ} {z : Reach} {top l : ℕ} {u : List ℕ} {e : Reach} → length a ≡ length st → ((i : ℕ) → i < top → getD a i 0 ≡ getD st i 0) → Held st z top l u e → Held a z top l u e
+held-kept : {st r : List ℕ} {z : Reach} {top l : ℕ} {a : Bool} {u : List ℕ} {e : Reach} → length r ≡ length st → ((i : ℕ) → i < top → getD r i 0 ≡ getD st i 0) → Held st z top l a u e → Held r z top l a u e
 held-kept n k (whole h s m) = whole (n ∙ h) s m
-held-kept {top = top} {l = l} {e = e} n k (inside c vs u h r s p g) =
+held-kept {top = top} {l = l} {a = a} {e = e} n k (inside c vs u h r s p g) =
     let x = k (top - 3) (omega arith) in
     let y = k (top - 3 + 1) (omega arith) in
     let t = k (top - 3 + 2) (omega arith) in
-    inside {top = top} {l = l} {e = e} c vs u h (rw t r) (rw x s) (rw y p) (rw (x, y, t) (held-kept n (λ i j. k i (omega arith)) g))
+    inside {top = top} {l = l} {a = a} {e = e} c vs u h (rw t r) (rw x s) (rw y p) (rw (x, y, t) (held-kept n (λ i j. k i (omega arith)) g))
 
 -- sizes and marks only grow, and levels fall as the stack grows
-held-fits : {st : List ℕ} {z : Reach} {top l : ℕ} {u : List ℕ} {e : Reach} → Held st z top l u e
+held-fits : {st : List ℕ} {z : Reach} {top l : ℕ} {a : Bool} {u : List ℕ} {e : Reach} → Held st z top l a u e
     → (e .size ≤ most) × (e .mark ≤ length (e .buffer)) × (length (e .buffer) ≡ length (z .buffer)) × (top + 3 * l ≡ 3 * levelMost) × (length st ≡ 3 * levelMost)
 held-fits (whole h s m) = (s, m, refl, refl, h)
 held-fits (inside c vs u h r s p g) = let a = held-fits g in (omega (arith, a .0), omega (arith, simp length-sets at (a .1)), simp length-sets at (a .2), omega (arith, a .3), a .4)
@@ -119,16 +119,16 @@ getD-in l (a ∷ xs) i zero h k = rw add-zero (getD-before (set l i a) xs (suc i
 getD-in l (a ∷ xs) i (suc j) h k = rw (add-suc, ← suc-add) (getD-in (set l i a) xs (suc i) j (omega arith) (simp length-set (omega arith)))
 
 -- one more of them is open
-held-on : (st : List ℕ) (z : Reach) (top l : ℕ) (u : List ℕ) (e : Reach) (c : Spot) (vs : Trees) (s p n : ℕ) (b : Bool) → top + 3 ≤ length st → Run (suc l) n b c vs → s ≤ e .size → p + 3 ≤ length (e .buffer)
-    → Held st z top (suc l) u (over (modeIs b) vs (shut (modeIs b) s p e)) → Held (sets st top (s ∷ p ∷ due n b ∷ [])) z (top + 3) l (rows* vs ++ u) e
-held-on st z top l u e c vs s p n b h r i j g =
+held-on : (st : List ℕ) (z : Reach) (top l : ℕ) (a : Bool) (u : List ℕ) (e : Reach) (c : Spot) (vs : Trees) (s p n : ℕ) (b : Bool) → top + 3 ≤ length st → Run (suc l) n b c vs → s ≤ e .size → p + 3 ≤ length (e .buffer)
+    → Held st z top (suc l) b u (over (modeIs b) vs (shut (modeIs b) a s p e)) → Held (sets st top (s ∷ p ∷ due n b ∷ [])) z (top + 3) l a (rows* vs ++ u) e
+held-on st z top l a u e c vs s p n b h r i j g =
     let t : top + 3 - 3 ≡ top = omega arith in
-    let a = s ∷ p ∷ due n b ∷ [] in
-    let x = rw add-zero at (getD-in st a top 0 (omega arith) h) in
-    let y = getD-in st a top 1 (omega arith) h in
-    let d = getD-in st a top 2 (omega arith) h in
-    inside {top = top + 3} {l = l} {e = e} c vs u (omega arith) (rw (t, d, due-back n b .0, due-back n b .1) r) (rw (t, x) i) (rw (t, y) j)
-    (rw (t, x, y, d, due-back n b .1) (held-kept (length-sets st top a) (λ k. getD-before st a top k) g))
+    let q = s ∷ p ∷ due n b ∷ [] in
+    let x = rw add-zero at (getD-in st q top 0 (omega arith) h) in
+    let y = getD-in st q top 1 (omega arith) h in
+    let d = getD-in st q top 2 (omega arith) h in
+    inside {top = top + 3} {l = l} {a = a} {e = e} c vs u (omega arith) (rw (t, d, due-back n b .0, due-back n b .1) r) (rw (t, x) i) (rw (t, y) j)
+    (rw (t, x, y, d, due-back n b .1) (held-kept (length-sets st top q) (λ k. getD-before st q top k) g))
 
 -- Rows: compounds that are not empty, described values, and those without children
 
@@ -137,46 +137,67 @@ data Free : Spot → Style → Trees → Type 0 where
   alone : {c : Spot} {s : Style} → bodyOf s none ≡ [] → Free c s none
   pair : {cs : Trees} → Free any describing cs
 
--- a compound that is not empty
-record Boxed (k : ℕ) (s : Style) (n : ℕ) (cs : Trees) : Type 0 where
+-- lists, maps and arrays
+abbrev pub isBox : Style → Bool
+isBox s = isListOrMap s || isArrayed s
+
+-- one that is not empty
+record Boxed (k : ℕ) (s : Style) (n : ℕ) : Type 0 where
   pub is : boxes s n ≡ true
-  pub full : children s n ≡ n
+  pub full : children s n ≡ countIn n
   pub marked : markWidth s n ≡ 3
   pub silent : letters s n ≡ 0
-  pub mode : modeOf (firstIn s n) ≡ modeIs (eqb k 0xf0)
-  pub body : length (bodyOf s cs) ≡ boolByte (eqb k 0xf0) + length (written* (modeIs (eqb k 0xf0)) cs)
-  pub coded : (b : ℕ) → length (head s k n b) ≡ boxWidth values b
-  pub bare : itemWidth s ≡ 8
+  pub mode : modeOf (spotIn s n) ≡ modeIs (eqb k 0xf0)
+  pub wide : (m : Mode) (b : ℕ) → length (headIn m s k n b) ≡ boxWidth m (eqb k 0xf0) b
 
 data Class (c : Spot) (k : ℕ) (s : Style) (n : ℕ) (cs : Trees) : Type 0 where
   free : boxes s n ≡ false → markWidth s n ≡ 0 → count cs ≡ (if (eqb k 0) 2 0) → Free c s cs → Class c k s n cs
-  box : Boxed k s n cs → Class c k s n cs
+  box : Boxed k s n → Class c k s n cs
 
 leaf : (c : Spot) (k : ℕ) (s : Style) (n : ℕ) (cs : Trees) → eqb k 0 ≡ false → count cs ≡ 0 → boxes s n ≡ false → markWidth s n ≡ 0 → bodyOf s none ≡ [] → Class c k s n cs
 unfolding count
 leaf c k s n none t h b m e = free b m (rw t) (alone e)
 leaf c k s n (more v vs) t h b m e = absurd (omega arith)
 
-filled : (c : Spot) (k : ℕ) (s : Style) (n : ℕ) (cs : Trees) (a : Bool) → eqb k 0xf0 ≡ a → modeOf (firstIn s (suc n)) ≡ modeIs a → length (bodyOf s cs) ≡ boolByte a + length (written* (modeIs a) cs) → ((b : ℕ) → length (head s k (suc n) b) ≡ boxWidth values b)
-    → boxes s (suc n) ≡ ltb 0 (suc n) → children s (suc n) ≡ suc n → markWidth s (suc n) ≡ if (eqb (suc n) 0) 0 3 → letters s (suc n) ≡ 0 → itemWidth s ≡ 8 → Class c k s (suc n) cs
-filled c k s n cs a e m b h i f w l u =
-    box (record { is = i ∙ lt-ltb 0 (suc n) (omega arith); full = f; marked = w ∙ rw (eqb·suc-zero n); silent = l; mode = rw e m; body = rw e b; coded = h; bare = u })
+-- a list, a map or an array has children or none
+module _ (c : Spot) (k : ℕ) (s : Style) (n : ℕ) (cs : Trees) (t : eqb k 0 ≡ false) (h : count cs ≡ children s n) (f : children s n ≡ countIn n) (w : markWidth s n ≡ if (eqb (countIn n) 0) 0 3) (l : letters s n ≡ 0) (e : bodyOf s none ≡ []) where
+  boxed-or : (modeOf (spotIn s n) ≡ modeIs (eqb k 0xf0)) → ((m : Mode) (b : ℕ) → 0 < countIn n → length (headIn m s k n b) ≡ boxWidth m (eqb k 0xf0) b) → Class c k s n cs
+  boxed-or m g = go (countIn n) refl
+    where
+      go : (j : ℕ) → countIn n ≡ j → Class c k s n cs
+      go zero i = leaf c k s n cs t (h ∙ f ∙ i) (rw (w, i)) (w ∙ rw i) e
+      go (suc j) i = box (record { is = rw (w, i, eqb·suc-zero j); full = f; marked = w ∙ rw (i, eqb·suc-zero j); silent = l; mode = m; wide = λ m b. g m b (omega (arith, i)) })
+
+count-small : (n : ℕ) → T (leb n most) → countIn n ≡ n
+unfolding countIn
+count-small n t = mod-eq-of-lt (omega (arith, leb→le n most t))
 
 classify : (c : Spot) (k : ℕ) (s : Style) (n : ℕ) (cs : Trees) → T (isKind s) → T (named k s) → (modeOf c ≡ elements → T (member s)) → T (ranged s k n) → count cs ≡ children s n → Class c k s n cs
-unfolding isKind named member ranged children markWidth bodyOf letters firstIn modeOf head itemWidth boxWidth encode* payloads headed
+unfolding isKind named member ranged children markWidth bodyOf letters spotIn modeOf head itemWidth boxWidth encode* payloads
 classify c k foreign n cs i t f r h = absurd i
 classify c k (numbered s w) n cs i t f r h = leaf c k (numbered s w) n cs (not-true (eqb k 0) (T-true _ t)) h refl refl refl
 classify c k (blob w) n cs i t f r h = leaf c k (blob w) n cs (not-true (eqb k 0) (T-true _ t)) h refl refl refl
 classify c k (lettered s) n cs i t f r h = leaf c k (lettered s) n cs (not-true (eqb k 0) (T-true _ t)) h refl refl refl
-classify c k (listed e s) zero cs i t f r h = leaf c k (listed e s) zero cs (between k t .0) h refl refl refl
-classify c k (listed e s) (suc n) cs i t f r h = filled c k (listed e s) n cs false (between k t .1) refl (omega arith) (λ b. rw (eqb·suc-zero n) (enclosed-width s k (suc n) b)) refl refl refl refl refl
-classify c k (mapped s) zero cs i t f r h = leaf c k (mapped s) zero cs (between k t .0) h refl refl refl
-classify c k (mapped s) (suc n) cs i t f r h = filled c k (mapped s) n cs false (between k t .1) refl (omega arith) (λ b. enclosed-width s k (suc n) b) refl refl refl refl refl
-classify c k (arrayed s) zero cs i t f r h = leaf c k (arrayed s) zero cs (rw (eqb→eq k 0xf0 t)) h refl refl refl
-classify c k (arrayed s) (suc n) cs i t f r h =
-    filled c k (arrayed s) n cs true (T-true (eqb k 0xf0) t) refl (rw (eqb·suc-zero n) at (elements-size (suc n) cs h)) (λ b. enclosed-width s k (suc n) b) refl refl refl refl refl
+classify c k (listed e s) n cs i t f r h =
+    let q = count-small n r in
+    boxed-or c k (listed e s) n cs (between k t .0) h (sym q) (rw q) refl refl (rw (between k t .1)) (λ m b x. rw (between k t .1) (go m b (rw q at x)))
+  where
+    go : (m : Mode) (b : ℕ) → 0 < n → length (headIn m (listed e s) k n b) ≡ boxWidth m false b
+    go values b x = rw (ne-eqb n 0 (λ z. omega arith)) (enclosed-width s k n b)
+    go elements b x = item-wide (listed e s) n b
+classify c k (mapped s) n cs i t f r h =
+    let q = count-small n (and-left (leb n most) (eqb (n % 2) 0) r) in
+    boxed-or c k (mapped s) n cs (between k t .0) h (sym q) (rw q) refl refl (rw (between k t .1)) (λ m b x. rw (between k t .1) (go m b))
+  where
+    go : (m : Mode) (b : ℕ) → length (headIn m (mapped s) k n b) ≡ boxWidth m false b
+    go values b = enclosed-width s k n b
+    go elements b = item-wide (mapped s) n b
+classify c k (arrayed s) n cs i t f r h = boxed-or c k (arrayed s) n cs (rw (eqb→eq k 0xf0 t)) h refl refl refl refl (rw (T-true (eqb k 0xf0) t)) (λ m b x. rw (T-true (eqb k 0xf0) t) (go m b))
+  where
+    go : (m : Mode) (b : ℕ) → length (headIn m (arrayed s) k n b) ≡ boxWidth m true b
+    go values b = array-long s k n b
+    go elements b = item-wide (arrayed s) n b
 classify any k describing n cs i t f r h = free refl refl (rw (T-true (eqb k 0) t) (h ∙ eqb→eq n 2 r)) pair
-classify first k describing n cs i t f r h = absurd (f refl)
 classify (like j) k describing n cs i t f r h = absurd (f refl)
 
 -- What a row adds
@@ -187,15 +208,10 @@ unfolding join modeOf head bodyOf letters
 free-size c k s n _ vs (alone e) = rw e (omega arith)
 free-size _ k _ n cs vs pair = omega (arith, size-join cs vs)
 
-free-valid : (c : Spot) (k : ℕ) (s : Style) (n l : ℕ) (cs vs : Trees) → Free c s cs → All (λ d v. Valid l d v) (firstIn s n) cs → All (λ d v. Valid (suc l) d v) (next c k) vs → All (λ d v. Valid (suc l) d v) (next c k) (join cs vs)
-unfolding join firstIn next
-free-valid c k s n l _ vs (alone e) a b = b
-free-valid _ k _ n l cs vs pair a b = valid-join (suc l) cs vs (deeper* cs l any a) b
-
-box-wide : (m : Mode) (k : ℕ) (s : Style) (n : ℕ) (cs : Trees) (b : ℕ) → Boxed k s n cs → length (headIn m s k n b) ≡ boxWidth m b
-unfolding boxWidth
-box-wide values k s n cs b x = x .coded b
-box-wide elements k s n cs b x = item-wide s n b ∙ x .bare
+free-valid : (c : Spot) (s : Style) (n l : ℕ) (cs vs : Trees) → Free c s cs → All (λ d v. Valid l d v) (spotIn s n) cs → All (λ d v. Valid (suc l) d v) c vs → All (λ d v. Valid (suc l) d v) c (join cs vs)
+unfolding join spotIn
+free-valid c s n l _ vs (alone e) a b = b
+free-valid _ _ n l cs vs pair a b = valid-join (suc l) cs vs (deeper* cs l any a) b
 
 -- a mark is stored behind the marks that follow it
 mark-behind : (o : List ℕ) (p b : ℕ) (xs : List ℕ) → sets (sets o (p + 3) xs) p (be 3 b) ≡ sets o p (be 3 b ++ xs)
@@ -218,16 +234,17 @@ module _ {m : Mode} (c : Spot) (q : modeOf c ≡ m) (p : Sure c) (k n : ℕ) (t 
       rw (mod-eq-of-lt (kind-small k (r .known))) (omega (arith, row-size, rw q at (free-size c k (styleOf k) n cs vs f))) in
       rw (z, row-marks, i, marks-join cs vs)
 
-  box-over : (e : Reach) → Boxed k (styleOf k) n cs → over m (more (node k n t cs) vs) e
-      ≡ over m vs (shut m (e .size) (e .mark) (over (modeIs (eqb k 0xf0)) cs (reach (e .size + boolByte (eqb k 0xf0)) (e .mark + 3) (e .buffer))))
+  box-over : (e : Reach) → Boxed k (styleOf k) n → over m (more (node k n t cs) vs) e
+      ≡ over m vs (shut m (eqb k 0xf0) (e .size) (e .mark) (over (modeIs (eqb k 0xf0)) cs (reach (e .size) (e .mark + 3) (e .buffer))))
   box-over e x =
       let b = length (bodyOf (styleOf k) cs) in
       let i = length-be 3 b in
       let j = length-append (be 3 b) (marks* cs) in
-      let d : e .size + boolByte (eqb k 0xf0) + length (written* (modeIs (eqb k 0xf0)) cs) - e .size ≡ length (bodyOf (styleOf k) cs) = omega (arith, x .body) in
+      let y : length (bodyOf (styleOf k) cs) ≡ length (written* (modeIs (eqb k 0xf0)) cs) = rw (x .mode) at (ap length (body-is (styleOf k) n cs)) in
+      let d : e .size + length (written* (modeIs (eqb k 0xf0)) cs) - e .size ≡ length (bodyOf (styleOf k) cs) = omega (arith, y) in
       let f : e .mark + length (be 3 (length (bodyOf (styleOf k) cs)) ++ marks* cs) ≡ e .mark + 3 + length (marks* cs) = omega arith in
       rw (d, row-marks, x .marked, mark-behind (e .buffer) (e .mark) b (marks* cs)) (reach-is
-      (omega (arith, row-size, x .silent, x .body, box-wide m k (styleOf k) n cs b x))
+      (omega (arith, row-size, x .silent, y, x .wide m b))
       (omega (arith, length-append (be 3 b ++ marks* cs) (marks* vs)))
       (sets-append (e .buffer) (e .mark) (be 3 b ++ marks* cs) (marks* vs) ∙ rw f))
 
@@ -257,27 +274,27 @@ no-pair k t e = rw e at t
 
 module _ (w : List ℕ) (z : Reach) (st o : List ℕ) (c : Point) (s : Spot) (k n : ℕ) (t : List ℕ) (cs vs : Trees) (l : ℕ) (u : List ℕ)
     (y : (kindOn w c ≡ k) × (numberOn w c ≡ n) × (2 * (c .row) + 2 ≤ length w) × (drop (2 * (c .row + 1)) w ≡ (rows* cs ++ rows* vs) ++ u))
-    (r : Run (suc l) (c .left) (c .elements) s (more (node k n t cs) vs)) (g : Held st z (c .top) (suc l) u (over (modeIs (c .elements)) (more (node k n t cs) vs) (reach (c .size) (c .mark) o))) where
+    (r : Run (suc l) (c .left) (c .elements) s (more (node k n t cs) vs)) (g : Held st z (c .top) (suc l) (c .elements) u (over (modeIs (c .elements)) (more (node k n t cs) vs) (reach (c .size) (c .mark) o))) where
   own : Row s k n t cs
   own = r .valid .0 .0
 
   fit : modeOf s ≡ elements → T (member (styleOf k))
   fit = element-fits s k (r .sure) (own .fits)
 
-  behind-run : Run (suc l) (c .left - 1) (c .elements) (next s k) vs
+  behind-run : Run (suc l) (c .left - 1) (c .elements) s vs
   unfolding count
-  behind-run = record { full = omega (arith, r .full); valid = r .valid .1; sure = sure-next s k (r .sure) (own .fits); mode = next-mode s k ∙ r .mode }
+  behind-run = record { full = omega (arith, r .full); valid = r .valid .1; sure = r .sure; mode = r .mode }
 
   onward : Class s k (styleOf k) n cs → Due w z (stacked st c k n) o (taken c k n) × (toGo w (taken c k n) < toGo w c)
   onward (free b m h f) =
       let v = behind-run in
       rw b (
         record {
-          spot = next s k;
+          spot = s;
           rest = join cs vs;
           levels = suc l;
           behind = u;
-          run = record { full = omega (arith, count-join cs vs, v .full); valid = free-valid s k (styleOf k) n l cs vs f (r .valid .0 .1) (v .valid); sure = v .sure; mode = v .mode };
+          run = record { full = omega (arith, count-join cs vs, v .full); valid = free-valid s (styleOf k) n l cs vs f (r .valid .0 .1) (v .valid); sure = v .sure; mode = v .mode };
           rowsAre = y .3 ∙ rw (rows-join cs vs);
           held = rw (free-over s (r .mode) (r .sure) k n t cs vs own (reach (c .size) (c .mark) o) m f) at g;
         },
@@ -288,13 +305,13 @@ module _ (w : List ℕ) (z : Reach) (st o : List ℕ) (c : Point) (s : Spot) (k 
       let a = held-fits h in
       rw (x .is) (
         record {
-          spot = firstIn (styleOf k) n;
+          spot = spotIn (styleOf k) n;
           rest = cs;
           levels = l;
           behind = rows* vs ++ u;
-          run = record { full = own .full ∙ x .full; valid = r .valid .0 .1; sure = sure-first (styleOf k) n; mode = x .mode };
+          run = record { full = own .full ∙ x .full; valid = r .valid .0 .1; sure = sure-inside (styleOf k) k n (own .inRange); mode = x .mode };
           rowsAre = y .3 ∙ append-assoc (rows* cs) (rows* vs) u;
-          held = held-on st z (c .top) l u _ (next s k) vs (c .size) (c .mark) (c .left - 1) (c .elements) (omega arith) behind-run (omega arith) (rw length-sets (omega (arith, simp length-sets at (a .1)))) h;
+          held = held-on st z (c .top) l (eqb k 0xf0) u _ s vs (c .size) (c .mark) (c .left - 1) (c .elements) (omega arith) behind-run (omega arith) (rw length-sets (omega (arith, simp length-sets at (a .1)))) h;
         },
         omega (arith, y .2),
       )
@@ -330,35 +347,35 @@ module _ {w : List ℕ} {z : Reach} {st o : List ℕ} {c : Point} (d : Due w z s
   unfolding count rows*
   turn h i j = go (d .rest) (d .levels) (d .run) (d .rowsAre) (d .held)
     where
-      go : (vs : Trees) (l : ℕ) → Run l (c .left) (c .elements) (d .spot) vs → drop (2 * (c .row)) w ≡ rows* vs ++ d .behind → Held st z (c .top) l (d .behind) (over (modeIs (c .elements)) vs (reach (c .size) (c .mark) o))
+      go : (vs : Trees) (l : ℕ) → Run l (c .left) (c .elements) (d .spot) vs → drop (2 * (c .row)) w ≡ rows* vs ++ d .behind → Held st z (c .top) l (c .elements) (d .behind) (over (modeIs (c .elements)) vs (reach (c .size) (c .mark) o))
           → Step w z c (Ready w c) (stacked st c (kindOn w c) (numberOn w c)) o (taken c (kindOn w c) (numberOn w c))
       go none l r e g = absurd (omega (arith, r .full))
       go (more (node k n t cs) vs) zero r e g = absurd (r .valid .0)
       go (more (node k n t cs) vs) (suc l) r e g = stepped w z st o c (d .spot) k n t cs vs l (d .behind) (two w (c .row) k n ((rows* cs ++ rows* vs) ++ d .behind) e) r g i j (left-small .0)
 
   -- none is due
-  spent : c .left ≡ 0 → (drop (2 * (c .row)) w ≡ d .behind) × Held st z (c .top) (d .levels) (d .behind) (reach (c .size) (c .mark) o)
+  spent : c .left ≡ 0 → (drop (2 * (c .row)) w ≡ d .behind) × Held st z (c .top) (d .levels) (c .elements) (d .behind) (reach (c .size) (c .mark) o)
   unfolding count rows*
   spent e = go (d .rest) (d .run .full) (d .rowsAre) (d .held)
     where
-      go : (vs : Trees) → count vs ≡ c .left → drop (2 * (c .row)) w ≡ rows* vs ++ d .behind → Held st z (c .top) (d .levels) (d .behind) (over (modeIs (c .elements)) vs (reach (c .size) (c .mark) o))
-          → (drop (2 * (c .row)) w ≡ d .behind) × Held st z (c .top) (d .levels) (d .behind) (reach (c .size) (c .mark) o)
+      go : (vs : Trees) → count vs ≡ c .left → drop (2 * (c .row)) w ≡ rows* vs ++ d .behind → Held st z (c .top) (d .levels) (c .elements) (d .behind) (over (modeIs (c .elements)) vs (reach (c .size) (c .mark) o))
+          → (drop (2 * (c .row)) w ≡ d .behind) × Held st z (c .top) (d .levels) (c .elements) (d .behind) (reach (c .size) (c .mark) o)
       go none n r g = (r, rw (none-over (modeIs (c .elements)) (reach (c .size) (c .mark) o)) at g)
       go (more v vs) n r g = absurd (omega arith)
 
   -- the innermost compound ends
   pub ended : c .left ≡ 0 → 0 < c .left + c .top → Step w z c (Complete st o c) st (sets o (placeOn st (c .top)) (be 3 (c .size - startOn st (c .top)))) (closed st c)
-  ended e h = go refl refl (spent e .0) (spent e .1)
+  ended e h = go refl refl refl (spent e .0) (spent e .1)
     where
-      go : {t l : ℕ} {u : List ℕ} {x : Reach} → c .top ≡ t → reach (c .size) (c .mark) o ≡ x → drop (2 * (c .row)) w ≡ u → Held st z t l u x
+      go : {t l : ℕ} {a : Bool} {u : List ℕ} {x : Reach} → c .top ≡ t → c .elements ≡ a → reach (c .size) (c .mark) o ≡ x → drop (2 * (c .row)) w ≡ u → Held st z t l a u x
           → Step w z c (Complete st o c) st (sets o (placeOn st (c .top)) (be 3 (c .size - startOn st (c .top)))) (closed st c)
-      go t x r (whole i j k) = absurd (omega arith)
-      go {l = l} t x r (inside s vs u i j k m g) =
+      go t q x r (whole i j k) = absurd (omega arith)
+      go {l = l} t q x r (inside s vs u i j k m g) =
           let a = held-fits g in
           let b = ap (λ y. y .size) x in
           record {
             can = record { high = omega arith; deep = omega arith; start = rw t (rw (← x) at k); place = rw t (rw (← x) at m); small = omega arith };
-            due = record { spot = s; rest = vs; levels = suc l; behind = u; run = rw t j; rowsAre = r; held = rw t (rw (← x) at g) };
+            due = record { spot = s; rest = vs; levels = suc l; behind = u; run = rw t j; rowsAre = r; held = rw (t, q) (rw (← x) at g) };
             less = omega arith;
           }
 
@@ -366,7 +383,7 @@ module _ {w : List ℕ} {z : Reach} {st o : List ℕ} {c : Point} (d : Due w z s
   pub finished : c .left + c .top ≤ 0 → o ≡ z .buffer
   finished h = go refl (spent (omega arith) .1)
     where
-      go : {t l : ℕ} {u : List ℕ} {x : Reach} → c .top ≡ t → Held st z t l u x → x .buffer ≡ z .buffer
+      go : {t l : ℕ} {a : Bool} {u : List ℕ} {x : Reach} → c .top ≡ t → Held st z t l a u x → x .buffer ≡ z .buffer
       go t (whole i j k) = refl
       go t (inside s vs u i j k m g) = absurd (omega arith)
 
@@ -376,7 +393,7 @@ goal o m v = reach (length (encode v)) (m + length (marks v)) (sets o m (marks v
 
 -- are due at its first row
 pub begun : (w o : List ℕ) (m : ℕ) (v : Tree) (st : List ℕ) → length st ≡ 3 * levelMost → Markable w o m v → Due w (goal o m v) st o (fromStart m)
-unfolding count rows* encode* marks* next modeOf
+unfolding count rows* encode* marks* modeOf
 begun w o m v st h k = record {
   spot = any;
   rest = more v none;
@@ -384,7 +401,7 @@ begun w o m v st h k = record {
   behind = [];
   run = record { full = refl; valid = (k .valid, tt); sure = tt; mode = refl };
   rowsAre = k .rowsAre ∙ sym (append-nil (rows v ++ []) ∙ append-nil (rows v));
-  held = subst (Held st (goal o m v) 0 levelMost []) (sym all) (whole h (k .small) (rw length-sets (k .room)));
+  held = subst (Held st (goal o m v) 0 levelMost false []) (sym all) (whole h (k .small) (rw length-sets (k .room)));
 }
   where
     all : over values (more v none) (reach 0 m o) ≡ goal o m v
@@ -403,14 +420,41 @@ pub bit : (b : Bool) → boolByte b ≤ 1
 bit true = omega arith
 bit false = omega arith
 
-pub box-small : (m : Mode) (b r : ℕ) → r ≡ boxWidth m b → r ≤ 9
+-- the bytes before the children of a compound, in the code's way
+pub box-value : (a : Bool) (b r : ℕ) → r ≡ if (ltb (boolByte a + b) shortEnd) 3 9 → boolByte a + r ≡ boxWidth values a b
 unfolding boxWidth
-box-small values b r e = if-case (λ z. r ≡ z → r ≤ 9) (ltb b shortEnd) 3 9 (λ t f. omega arith) (λ t f. omega arith) e
-box-small elements b r e = omega arith
+box-value true b r e = let i : 1 + b ≡ suc b = omega arith in omega (arith, rw i at e)
+box-value false b r e = let i : 0 + b ≡ b = omega arith in omega (arith, rw i at e)
 
-pub not-boxed : (k n : ℕ) → Rest (kindsOnto (λ s. ltb 0 (markWidth s 1)) kinds []) k → false ≡ boxes (styleOf k) n
+pub box-element : (a : Bool) (b : ℕ) → boolByte a + 8 ≡ boxWidth elements a b
+unfolding boxWidth
+box-element true b = refl
+box-element false b = refl
+
+pub box-small : (m : Mode) (a : Bool) (b r : ℕ) → r ≡ boxWidth m a b → r ≤ 10
+unfolding boxWidth
+box-small values true b r e = if-case (λ z. r ≡ suc z → r ≤ 10) (ltb (suc b) shortEnd) 3 9 (λ t f. omega arith) (λ t f. omega arith) e
+box-small values false b r e = if-case (λ z. r ≡ z → r ≤ 10) (ltb b shortEnd) 3 9 (λ t f. omega arith) (λ t f. omega arith) e
+box-small elements true b r e = omega arith
+box-small elements false b r e = omega arith
+
+pub box-some : (n : ℕ) → ltb 0 n ≡ ltb 0 (if (eqb n 0) 0 3)
+box-some zero = refl
+box-some (suc n) = rw (eqb·suc-zero n, lt-ltb 0 (suc n) (omega arith))
+
+no-box : (s : Style) (n : ℕ) → isBox s ≡ false → false ≡ boxes s n
 unfolding markWidth
-not-boxed k n r = rw (other (λ s. ltb 0 (markWidth s 1)) refl k r)
+no-box foreign n e = refl
+no-box (numbered s w) n e = refl
+no-box (blob w) n e = refl
+no-box (lettered s) n e = refl
+no-box (listed a s) n e = absurd (subst T e tt)
+no-box (mapped s) n e = absurd (subst T e tt)
+no-box (arrayed s) n e = absurd (subst T e tt)
+no-box describing n e = refl
+
+pub not-boxed : (k n : ℕ) → Rest (kindsOnto isBox kinds []) k → false ≡ boxes (styleOf k) n
+not-boxed k n r = no-box (styleOf k) n (other isBox refl k r)
 
 -- the bytes of a row without a mark, and how many rows are due in its place
 abbrev pub Bare : (elements : Bool) → (kind number size children : ℕ) → Type 0
@@ -435,7 +479,7 @@ pair-bare e k n i f = rw (i, f) (refl, refl)
 pub other-bare : (e : Bool) (k n : ℕ) (s : Style) (y z : ℕ) → e ≡ false → ¬ (k ≡ 0) → s ≡ styleOf k → y ≡ length (head s (k % 256) n 0) → z ≡ letters s n → Bare e k n (y + z) 0
 other-bare e k n s y z i h f a b = (rw (i, a, b, f), rw (ne-eqb k 0 h))
 
-bare-small : (m : Mode) (k n : ℕ) → bare m k n ≤ 9 + letters (styleOf k) n
+bare-small : (m : Mode) (k n : ℕ) → bare m k n ≤ 10 + letters (styleOf k) n
 bare-small values k n = omega (arith, head-short k (k % 256) n 0)
 bare-small elements k n = omega (arith, item-wide (styleOf k) n 0, item-short k)
 

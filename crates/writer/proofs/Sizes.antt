@@ -1,25 +1,24 @@
 -- The bytes of a number and of letters by their kind, and rows with children.
 use Prim.Native.Nat.{ℕ, zero, suc, _+_, _%_, _^_, _≤_, _<_}
 use mathlib.Core.Path.{_≡_, refl, sym, _∙_, subst}
-use mathlib.Core.List.{List, []}
+use mathlib.Core.List.{List, [], _∷_, _++_}
 use mathlib.Core.Bool.{Bool, true, false, not, _&&_}
 use native.Mathlib.Nat.{pow-le-pow-right}
 use native.Mathlib.Omega.{arith}
 use borrow.Author.Tests.{lt-ltb, le-ltb, le-leb, lt-leb, eq-eqb, ne-eqb}
 use lib.Dec.{T, eqb, eqb→eq, leb, leb→le, ltb, ltb→lt, lit<}
-use lib.ListN.{length, take}
+use lib.ListN.{length, take, length-append}
 use Rattle.standard.specs.Choose.{if}
-use Rattle.standard.specs.Tree.{Trees}
-use Rattle.standard.specs.Kinds.{Short, never, flag, unsigned, signed, Style, foreign, numbered, blob, lettered, listed, mapped, arrayed, describing, kinds, styleOf, isKind, member, fair, clean}
-use Rattle.standard.specs.Table.{most, Spot, any, first, ranged, letters, children, firstIn}
-use Rattle.standard.specs.Encode.{shortEnd, fitsByte, shortest, headed, encode*, payloads}
+use Rattle.standard.specs.Kinds.{Short, never, flag, unsigned, signed, Style, foreign, numbered, blob, lettered, listed, mapped, arrayed, describing, kinds, styleOf, isKind, member, fair, clean, countIn, kindIn}
+use Rattle.standard.specs.Table.{most, Spot, any, like, ranged, letters, children, spotIn}
+use Rattle.standard.specs.Encode.{shortEnd, fitsByte, shortest}
 use Rattle.standard.specs.Facts.{and-left, and-right}
 use Rattle.laws.specs.Numbers.{length-be}
 use Rattle.standard.proofs.Lookup.{Rest}
-use Rattle.writer.specs.Heads.{head, itemWidth, bodyOf, Mode, values, elements}
+use Rattle.writer.specs.Heads.{enclosure, head, itemWidth, arrayWidth, Mode, values, elements}
 use Rattle.writer.specs.Marks.{markWidth}
-use Rattle.writer.specs.Direct.{isNumber}
-use Rattle.writer.specs.Sizing.{headSize, codeWidth, nests, opens, numberSize, textSize, openHead, bodySize}
+use Rattle.writer.specs.Direct.{isNumber, isArrayed}
+use Rattle.writer.specs.Sizing.{headSize, nests, opens, numberSize, textSize, openHead}
 use Rattle.writer.proofs.Bodies.{enclosed-width, item-wide, head-short}
 use Rattle.writer.proofs.Tabled.{allKinds, of-kind, kindsOnto, other}
 use Rattle.writer.proofs.Direct.{coded-long, flag-long}
@@ -122,25 +121,26 @@ module _ (k n : ℕ) (x : List ℕ) where
 
 -- Rows with children
 
--- the spot of the first child of a row of that kind
-abbrev pub spotIn : (kind : ℕ) → Spot
-spotIn k = if (eqb k 0xf0) first any
+-- how many children a row of that kind and number has, and where they stand
+abbrev pub countBy : (kind number : ℕ) → ℕ
+countBy k n = if (eqb k 0xf0) (countIn n) n
+
+abbrev pub spotBy : (kind number : ℕ) → Spot
+spotBy k n = if (eqb k 0xf0) (like (kindIn n)) any
 
 -- does a row hold values with codes of their own
 abbrev pub holder : Style → Bool
-holder s = ltb (codeWidth s 1) (children s 1)
+holder s = not (isArrayed s) && ltb 0 (children s 1)
 
 -- what the style of a row with children says, by its kind
 pub record NestRow (s : Style) (k n : ℕ) : Type 0 where
   pub known : isKind s ≡ true
   pub silent : letters s n ≡ 0
-  pub full : children s n ≡ n
-  pub spot : firstIn s n ≡ spotIn k
+  pub full : children s n ≡ countBy k n
+  pub spot : spotIn s n ≡ spotBy k n
   pub marked : markWidth s n ≡ if (eqb k 0) 0 3
-  pub bodied : (cs : Trees) → bodyOf s cs ≡ if (eqb k 0xf0) (headed cs (payloads cs)) (encode* cs)
-  pub body : (z : ℕ) → codeWidth s n + z ≡ bodySize k z
   pub headed : (b : ℕ) → headSize values s k n b ≡ openHead values k b
-  pub wide : T (member s) → itemWidth s ≡ 8
+  pub wide : T (member s) → (b : ℕ) → itemWidth s ≡ openHead elements k b
   pub fit : member s ≡ leb 0xd0 k
   pub held : holder s ≡ not (eqb k 0xf0)
 
@@ -168,30 +168,34 @@ between k t =
 counted : (n : ℕ) → 0 < n → eqb n 0 ≡ false
 counted n h = ne-eqb n 0 (λ (z : n ≡ 0). omega arith)
 
+-- the head of an array that stands in none
+pub array-long : (s k n b : ℕ) → length (enclosure s k (countIn n) (suc b) ++ (kindIn n % 256 ∷ [])) ≡ arrayWidth b
+array-long s k n b = omega (arith, length-append (enclosure s k (countIn n) (suc b)) (kindIn n % 256 ∷ []), enclosed-width s k (countIn n) (suc b))
+
 nest-style : (s : Style) (k n : ℕ) → T (named k s) → 0 < children s n → NestRow s k n
-unfolding named isKind letters children firstIn markWidth codeWidth head itemWidth member bodyOf
+unfolding named isKind letters children spotIn markWidth head itemWidth member
 nest-style foreign k n t h = absurd (omega arith)
 nest-style (numbered s w) k n t h = absurd (omega arith)
 nest-style (blob w) k n t h = absurd (omega arith)
 nest-style (lettered s) k n t h = absurd (omega arith)
 nest-style (listed a s) k n t h =
     let e = between k t in
-    record { known = refl; silent = refl; full = refl; spot = rw (e .1); marked = rw (e .0, counted n h); body = λ z. rw (e .1) (omega arith); headed = λ b. rw (e .0, counted n h) (enclosed-width s (k % 256) n b); wide = λ m. refl; fit = sym (e .2); held = rw (e .1); bodied = λ cs. rw (e .1) }
+    record { known = refl; silent = refl; full = rw (e .1); spot = rw (e .1); marked = rw (e .0, counted n h); headed = λ b. rw (e .0, e .1, counted n h) (enclosed-width s (k % 256) n b); wide = λ m b. rw (e .1); fit = sym (e .2); held = rw (e .1) }
 nest-style (mapped s) k n t h =
     let e = between k t in
-    record { known = refl; silent = refl; full = refl; spot = rw (e .1); marked = rw (e .0, counted n h); body = λ z. rw (e .1) (omega arith); headed = λ b. rw (e .0) (enclosed-width s (k % 256) n b); wide = λ m. refl; fit = sym (e .2); held = rw (e .1); bodied = λ cs. rw (e .1) }
+    record { known = refl; silent = refl; full = rw (e .1); spot = rw (e .1); marked = rw (e .0, counted n h); headed = λ b. rw (e .0, e .1) (enclosed-width s (k % 256) n b); wide = λ m b. rw (e .1); fit = sym (e .2); held = rw (e .1) }
 nest-style (arrayed s) k n t h =
     rw (eqb→eq k 0xf0 t)
-    (record { known = refl; silent = refl; full = refl; spot = refl; marked = rw (counted n h); body = λ z. rw (counted n h); headed = λ b. enclosed-width s 0xf0 n b; wide = λ m. refl; fit = refl; held = refl; bodied = λ cs. refl })
+    (record { known = refl; silent = refl; full = refl; spot = refl; marked = rw (counted (countIn n) h); headed = λ b. array-long s 0xf0 n b; wide = λ m b. refl; fit = refl; held = refl })
 nest-style describing k n t h =
-    rw (eqb→eq k 0 t) (record { known = refl; silent = refl; full = refl; spot = refl; marked = refl; body = λ z. omega arith; headed = λ b. refl; wide = λ m. absurd m; fit = refl; held = refl; bodied = λ cs. refl })
+    rw (eqb→eq k 0 t) (record { known = refl; silent = refl; full = refl; spot = refl; marked = refl; headed = λ b. refl; wide = λ m b. absurd m; fit = refl; held = refl })
 
 pub nest-row : (k n : ℕ) → 0 < children (styleOf k) n → NestRow (styleOf k) k n
 nest-row k n = nest-style (styleOf k) k n (is-named k)
 
 pub nest-head : {s : Style} {k n : ℕ} → NestRow s k n → (m : Mode) → (m ≡ elements → T (member s)) → (b : ℕ) → headSize m s k n b ≡ openHead m k b
 nest-head r values f b = r .headed b
-nest-head {s = s} {n = n} r elements f b = item-wide s n b ∙ r .wide (f refl)
+nest-head {s = s} {n = n} r elements f b = item-wide s n b ∙ r .wide (f refl) b
 
 -- a row has children or none
 pub nest-case : {P : Type 0} (k n : ℕ) → (children (styleOf k) n ≡ 0 → P) → (0 < children (styleOf k) n → NestRow (styleOf k) k n → P) → P
@@ -206,15 +210,20 @@ unfolding opens nests
 bare-closed s k n e = rw (e, and-false (not (eqb k 0xf0)))
 
 pub empty-closed : (k n : ℕ) → n ≡ 0 → false ≡ opens (styleOf k) k n
-empty-closed k n e = nest-case k n (bare-closed (styleOf k) k n) (λ h r. absurd (omega (arith, r .full)))
+unfolding opens countIn
+empty-closed k n e = nest-case k n (bare-closed (styleOf k) k n) (λ h r. go (eqb k 0xf0) (omega (arith, h, r .full)))
+  where
+    go : (a : Bool) → 0 < if a (countIn n) n → false ≡ (not a && nests (styleOf k) k n)
+    go true h = refl
+    go false h = absurd (omega arith)
 
 pub not-open : (k n : ℕ) → Rest (kindsOnto holder kinds []) k → false ≡ opens (styleOf k) k n
-unfolding opens codeWidth children
+unfolding opens children
 not-open k n t = nest-case k n (bare-closed (styleOf k) k n) (λ h r. rw (sym (r .held) ∙ other holder refl k t))
 
 -- Lengths of heads
 
-pub number-small : (s : Style) (k : ℕ) (h : Short) (w n c r : ℕ) → s ≡ styleOf k → s ≡ numbered h w → length (shortest h w c n) ≡ 1 + r → 1 + r ≤ 9
+pub number-small : (s : Style) (k : ℕ) (h : Short) (w n c r : ℕ) → s ≡ styleOf k → s ≡ numbered h w → length (shortest h w c n) ≡ 1 + r → 1 + r ≤ 10
 unfolding head
 number-small s k h w n c r e f g = rw (← g) (rw (sym e ∙ f) at (head-short k c n 0))
 

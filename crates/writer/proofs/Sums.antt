@@ -5,17 +5,16 @@ use mathlib.Core.List.{List, [], _∷_, _++_}
 use mathlib.Core.Bool.{Bool, true, false}
 use native.Mathlib.Omega.{arith}
 use native.Mathlib.Nat.{mod-eq-of-lt}
-use borrow.Author.Tests.{ne-eqb}
 use lib.Dec.{eqb, leb}
 use lib.ListN.{length, take, drop, length-append, length-drop}
 use lib.Seq.{drop-drop, drop-at, sets}
 use Rattle.standard.specs.Choose.{if}
 use Rattle.standard.specs.Answer.{Answer, got, refuse, Place, at, _>>=_, _>>_, need, kindUnknown, tooDeep, elementUnfit, numberOutside, textAmiss}
 use Rattle.standard.specs.Bytes.{be}
-use Rattle.standard.specs.Tree.{Tree, node, Trees, none, more, root, count, rows, text, text*, tall, tall*}
-use Rattle.standard.specs.Kinds.{Style, foreign, numbered, blob, lettered, listed, mapped, arrayed, describing, styleOf, isKind, clean}
-use Rattle.standard.specs.Table.{Spot, allowed, ranged, letters, children, firstIn, next, Row, All, Valid, letter, several, row, tree}
-use Rattle.standard.specs.Encode.{encode, encode*, item, payloads, headed}
+use Rattle.standard.specs.Tree.{Tree, node, Trees, none, more, rows, text, text*, tall, tall*}
+use Rattle.standard.specs.Kinds.{Style, foreign, numbered, blob, lettered, listed, mapped, arrayed, describing, styleOf, isKind, clean, countIn}
+use Rattle.standard.specs.Table.{Spot, allowed, naming, ranged, letters, children, spotIn, Row, All, Valid, letter, several, row, tree}
+use Rattle.standard.specs.Encode.{encode, encode*, item, payloads}
 use Rattle.standard.specs.Facts.{if-case}
 use Rattle.laws.specs.Answers.{out}
 use Rattle.laws.specs.Bounds.{rows-length}
@@ -25,14 +24,14 @@ use Rattle.laws.specs.Tables.{tree-sound}
 use Rattle.writer.specs.Heads.{bodyOf, Mode, values, elements, modeOf, written, written*}
 use Rattle.writer.specs.Marks.{markWidth, marks, marks*}
 use Rattle.writer.specs.Rows.{check}
-use Rattle.writer.specs.Sizing.{sizeIn, totalFrom, Marked, valuesAt, Finds, headSize, codeWidth, Within}
+use Rattle.writer.specs.Sizing.{sizeIn, totalFrom, Marked, valuesAt, Finds, headSize, Within}
 use Rattle.standard.specs.declared.refusal.Refusal.{Refusal}
 use Rattle.writer.specs.declared.sizing.Sized.{Sized}
 use Rattle.writer.specs.declared.sizing.Sized.the-variants.{Fits, Refused}
 use Rattle.writer.specs.declared.sizing.Extent.{Extent}
 use Rattle.writer.proofs.Stores.{sets-swap}
 use Rattle.writer.proofs.Bodies.{kind-small, head-short, item-wide, item-short}
-use Rattle.writer.proofs.Spots.{Sure, sure-first, sure-next, spot-fits, next-mode, row-bytes}
+use Rattle.writer.proofs.Spots.{Sure, sure-inside, row-bytes}
 
 -- A value is its checks and then its children
 
@@ -43,7 +42,7 @@ need-then false x p m n k e = refl
 -- the children of a checked row, and the value that they make with it
 grown : (l : ℕ) (i : ℕ) (w x : List ℕ) → ℕ × ℕ → Answer (Tree × List ℕ × List ℕ)
 grown l i w x (k, n) = do
-  (vs, r, z) ← several (λ d j u y. tree l d j u y) (firstIn (styleOf k) n) (children (styleOf k) n) (i + 1) w (drop (letters (styleOf k) n) x)
+  (vs, r, z) ← several (λ d j u y. tree l d j u y) (spotIn (styleOf k) n) (children (styleOf k) n) (i + 1) w (drop (letters (styleOf k) n) x)
   got (node k n (take (letters (styleOf k) n) x) vs, r, z)
 
 tree-checked : (l : ℕ) (c : Spot) (i : ℕ) (w x : List ℕ) → tree l c i w x ≡ _>>=_ (check l c i w x) (grown (l - 1) i (drop 2 w) x)
@@ -60,12 +59,12 @@ tree-checked (suc l) c i (k ∷ []) x = refl
 tree-checked (suc l) c i (k ∷ n ∷ w) x =
     let s = styleOf k in
     let cut : List ℕ × List ℕ = (take (letters s n) x, drop (letters s n) x) in
-    let below : List ℕ × List ℕ → Answer (Tree × List ℕ × List ℕ) = λ q. _>>=_ (several (λ d j u y. tree l d j u y) (firstIn s n) (children s n) (i + 1) w (q .1)) (λ v. got (node k n (q .0) (v .0), v .1, v .2)) in
+    let below : List ℕ × List ℕ → Answer (Tree × List ℕ × List ℕ) = λ q. _>>=_ (several (λ d j u y. tree l d j u y) (spotIn s n) (children s n) (i + 1) w (q .1)) (λ v. got (node k n (q .0) (v .0), v .1, v .2)) in
     let last : List ℕ × List ℕ → Answer (Tree × List ℕ × List ℕ) = λ q. _>>_ (need (clean k (q .0)) textAmiss (at i)) (below q) in
     let e : suc l - 1 ≡ l = omega arith in
-    rw e (sym (need-then (isKind s) kindUnknown (at i) _ _ (grown l i w x) (need-then (allowed c k) elementUnfit (at i) _ _ (grown l i w x) (need-then (ranged s k n) numberOutside (at i) _ _ (grown l i w x)
+    rw e (sym (need-then (isKind s) kindUnknown (at i) _ _ (grown l i w x) (need-then (allowed c k) elementUnfit (at i) _ _ (grown l i w x) (need-then (naming (spotIn s n)) elementUnfit (at i) _ _ (grown l i w x) (need-then (ranged s k n) numberOutside (at i) _ _ (grown l i w x)
     (need-then (leb (letters s n) (length x)) textAmiss (at i) _ (last cut) (grown l i w x) (need-then (clean k (take (letters s n) x)) textAmiss (at i) (got (k, n)) (below cut) (grown l i w x) refl)
-    ∙ sym (need-then (leb (letters s n) (length x)) textAmiss (at i) (got cut) (last cut) last refl))))))
+    ∙ sym (need-then (leb (letters s n) (length x)) textAmiss (at i) (got cut) (last cut) last refl)))))))
 
 -- The value at a place, and the checks of its row
 abbrev pub treeAt : (w x : List ℕ) → (l : ℕ) → Spot → Extent → Answer (Tree × List ℕ × List ℕ)
@@ -79,7 +78,7 @@ abbrev pub under : Extent → (kind number : ℕ) → Extent
 under o k n = record { row = o .row + 1; text = o .text + letters (styleOf k) n; size = 0; mark = o .mark + markWidth (styleOf k) n }
 
 abbrev pub below : (w x : List ℕ) → (l : ℕ) → Extent → (kind number : ℕ) → Answer (Trees × List ℕ × List ℕ)
-below w x l o k n = valuesAt w x (l - 1) (firstIn (styleOf k) n) (children (styleOf k) n) (under o k n)
+below w x l o k n = valuesAt w x (l - 1) (spotIn (styleOf k) n) (children (styleOf k) n) (under o k n)
 
 next-row : (w : List ℕ) (i : ℕ) → drop 2 (drop (2 * i) w) ≡ drop (2 * (i + 1)) w
 next-row w i =
@@ -106,9 +105,6 @@ unfolding encode*
 more-size values v vs = length-append (encode v) (encode* vs)
 more-size elements v vs = length-append (item v) (payloads vs)
 
-pub size-more : (c : Spot) (v : Tree) (vs : Trees) → sizeIn c (more v vs) ≡ sizeOf c v + sizeIn (next c (root v)) vs
-size-more c v vs = rw (next-mode c (root v)) (more-size (modeOf c) v vs)
-
 size-none : (c : Spot) → sizeIn c none ≡ 0
 unfolding encode*
 size-none c = go (modeOf c)
@@ -117,22 +113,20 @@ size-none c = go (modeOf c)
     go values = refl
     go elements = refl
 
-pub elements-size : (n : ℕ) (cs : Trees) → count cs ≡ n → length (headed cs (payloads cs)) ≡ if (eqb n 0) 0 1 + length (payloads cs)
-unfolding headed payloads count
-elements-size n none h = rw (← h) (omega arith)
-elements-size n (more (node k m t ds) vs) h = rw (← h, ne-eqb (suc (count vs)) 0 (λ e. omega arith)) (omega arith)
+-- the size of a row with its children: head, text and children
+pub body-is : (s : Style) (n : ℕ) (cs : Trees) → bodyOf s cs ≡ written* (modeOf (spotIn s n)) cs
+unfolding bodyOf modeOf spotIn
+body-is foreign n cs = refl
+body-is (numbered s w) n cs = refl
+body-is (blob w) n cs = refl
+body-is (lettered s) n cs = refl
+body-is (listed e s) n cs = refl
+body-is (mapped s) n cs = refl
+body-is (arrayed s) n cs = refl
+body-is describing n cs = refl
 
--- the size of a row with its children: head, text and body
-pub body-size : (s : Style) (n : ℕ) (cs : Trees) → count cs ≡ children s n → length (bodyOf s cs) ≡ codeWidth s n + sizeIn (firstIn s n) cs
-unfolding bodyOf codeWidth modeOf firstIn children
-body-size foreign n cs h = omega arith
-body-size (numbered s w) n cs h = omega arith
-body-size (blob w) n cs h = omega arith
-body-size (lettered s) n cs h = omega arith
-body-size (listed e s) n cs h = omega arith
-body-size (mapped s) n cs h = omega arith
-body-size (arrayed s) n cs h = elements-size n cs h
-body-size describing n cs h = omega arith
+pub body-size : (s : Style) (n : ℕ) (cs : Trees) → length (bodyOf s cs) ≡ sizeIn (spotIn s n) cs
+body-size s n cs = ap length (body-is s n cs)
 
 pub row-size : (c : Spot) (k n : ℕ) (t : List ℕ) (cs : Trees) → Sure c → Row c k n t cs
     → sizeOf c (node k n t cs) ≡ headSize (modeOf c) (styleOf k) k n (length (bodyOf (styleOf k) cs)) + letters (styleOf k) n + length (bodyOf (styleOf k) cs)
@@ -143,19 +137,19 @@ row-size c k n t cs p r = rw (row-bytes c k n t cs p r, mod-eq-of-lt (kind-small
 pub few : (m n : ℕ) → if (eqb n 0) 0 m ≤ m
 few m n = if-case (λ (z : ℕ). z ≤ m) (eqb n 0) 0 m (λ t. omega arith) (λ t. omega arith)
 
--- and where it has no children neither a code nor a mark
-pub widths : (s : Style) (n : ℕ) → (codeWidth s n ≤ 1) × (markWidth s n ≤ 3) × (children s n ≡ 0 → codeWidth s n + markWidth s n ≡ 0)
-unfolding children codeWidth markWidth
-widths foreign n = (omega arith, omega arith, λ e. refl)
-widths (numbered s w) n = (omega arith, omega arith, λ e. refl)
-widths (blob w) n = (omega arith, omega arith, λ e. refl)
-widths (lettered s) n = (omega arith, omega arith, λ e. refl)
-widths (listed a s) n = (omega arith, few 3 n, λ e. rw e)
-widths (mapped s) n = (omega arith, few 3 n, λ e. rw e)
-widths (arrayed s) n = (few 1 n, few 3 n, λ e. rw e)
-widths describing n = (omega arith, omega arith, λ e. refl)
+-- and where it has no children no mark
+pub widths : (s : Style) (n : ℕ) → (markWidth s n ≤ 3) × (children s n ≡ 0 → markWidth s n ≡ 0)
+unfolding children markWidth
+widths foreign n = (omega arith, λ e. refl)
+widths (numbered s w) n = (omega arith, λ e. refl)
+widths (blob w) n = (omega arith, λ e. refl)
+widths (lettered s) n = (omega arith, λ e. refl)
+widths (listed a s) n = (few 3 n, λ e. rw e)
+widths (mapped s) n = (few 3 n, λ e. rw e)
+widths (arrayed s) n = (few 3 (countIn n), λ e. rw e)
+widths describing n = (omega arith, λ e. refl)
 
-head-small : (m : Mode) (k n b : ℕ) → headSize m (styleOf k) k n b ≤ 9
+head-small : (m : Mode) (k n b : ℕ) → headSize m (styleOf k) k n b ≤ 10
 head-small values k n b = head-short k (k % 256) n b
 head-small elements k n b = omega (arith, item-wide (styleOf k) n b, item-short k)
 
@@ -169,10 +163,9 @@ mutual
       omega (
         arith,
         row-size c k n t cs p r,
-        body-size (styleOf k) n cs (r .full),
-        widths (styleOf k) n .0,
+        body-size (styleOf k) n cs,
         head-small (modeOf c) k n (length (bodyOf (styleOf k) cs)),
-        sizes-bound cs l (firstIn (styleOf k) n) (sure-first (styleOf k) n) (h .1),
+        sizes-bound cs l (spotIn (styleOf k) n) (sure-inside (styleOf k) k n (r .inRange)) (h .1),
         r .long,
         length-append t (text* cs),
       )
@@ -182,9 +175,9 @@ mutual
   sizes-bound (more v vs) l c p h =
       omega (
         arith,
-        size-more c v vs,
+        more-size (modeOf c) v vs,
         size-bound v l c p (h .0),
-        sizes-bound vs l (next c (root v)) (sure-next c (root v) p (spot-fits l c v (h .0))) (h .1),
+        sizes-bound vs l c p (h .1),
         length-append (text v) (text* vs),
       )
 
@@ -193,7 +186,7 @@ mutual
 
   marks-bound : (v : Tree) → length (marks v) ≤ 3 * tall v
   marks-bound (node k n t cs) =
-      omega (arith, widths (styleOf k) n .1, marks*-bound cs, length-append (be (markWidth (styleOf k) n) (length (bodyOf (styleOf k) cs))) (marks* cs), length-be (markWidth (styleOf k) n) (length (bodyOf (styleOf k) cs)))
+      omega (arith, widths (styleOf k) n .0, marks*-bound cs, length-append (be (markWidth (styleOf k) n) (length (bodyOf (styleOf k) cs))) (marks* cs), length-be (markWidth (styleOf k) n) (length (bodyOf (styleOf k) cs)))
 
   marks*-bound : (vs : Trees) → length (marks* vs) ≤ 3 * tall* vs
   marks*-bound none = omega arith
@@ -221,23 +214,22 @@ marked-node b b₁ b₂ m width body ms z f g room =
     let s : sets (sets b (m + width) ms) m (be width body) ≡ sets (sets b m (be width body)) (m + width) ms = sets-swap b m (be width body) (m + width) ms (omega arith) in
     g (omega arith) ∙ ap (λ (y : List ℕ). sets y m (be width body)) (f (omega arith)) ∙ s ∙ ap (λ (y : ℕ). sets (sets b m (be width body)) (m + y) ms) (sym k) ∙ sym (sets-append b m (be width body) ms)
 
--- One value after another: n values from o on, at spot c and over the buffer b, come to m values from e on, at spot d and over a
-pub record Comes (w x : List ℕ) (l : ℕ) (c : Spot) (o : Extent) (n : ℕ) (b : List ℕ) (d : Spot) (e : Extent) (m : ℕ) (a : List ℕ) : Type 0 where
+-- One value after another at a spot c: n values from o on, over the buffer b, come to m values from e on, over a
+pub record Comes (w x : List ℕ) (l : ℕ) (c : Spot) (o : Extent) (n : ℕ) (b : List ℕ) (e : Extent) (m : ℕ) (a : List ℕ) : Type 0 where
   pub within : Within w x e
-  pub sure : Sure d
-  pub mode : modeOf d ≡ modeOf c
+  pub sure : Sure c
   pub kept : length a ≡ length b
-  pub sum : totalFrom d e (valuesAt w x l d m e) ≡ totalFrom c o (valuesAt w x l c n o)
-  pub marks : (z : List ℕ) → Marked a (e .mark) z (valuesAt w x l d m e) → Marked b (o .mark) z (valuesAt w x l c n o)
+  pub sum : totalFrom c e (valuesAt w x l c m e) ≡ totalFrom c o (valuesAt w x l c n o)
+  pub marks : (z : List ℕ) → Marked a (e .mark) z (valuesAt w x l c m e) → Marked b (o .mark) z (valuesAt w x l c n o)
 
 -- a place by its fields
 pub same : {a b d e a′ b′ d′ e′ : ℕ} → a ≡ a′ → b ≡ b′ → d ≡ d′ → e ≡ e′ → _≡_ {A = Extent} (record { row = a; text = b; size = d; mark = e }) (record { row = a′; text = b′; size = d′; mark = e′ })
 same p q r s = rw (p, q, r, s)
 
-total-step : (c : Spot) (o : Extent) (v : Tree) (a : Answer (Trees × List ℕ × List ℕ)) → totalFrom (next c (root v)) (reach c o v) a ≡ totalFrom c o (joined v a)
+total-step : (c : Spot) (o : Extent) (v : Tree) (a : Answer (Trees × List ℕ × List ℕ)) → totalFrom c (reach c o v) a ≡ totalFrom c o (joined v a)
 unfolding totalFrom tall text marks
 total-step c o v (got (vs, u, y)) =
-    ap Fits (same (omega arith) (omega (arith, length-append (text v) (text* vs))) (omega (arith, size-more c v vs)) (omega (arith, length-append (marks v) (marks* vs))))
+    ap Fits (same (omega arith) (omega (arith, length-append (text v) (text* vs))) (omega (arith, more-size (modeOf c) v vs)) (omega (arith, length-append (marks v) (marks* vs))))
 total-step c o v (refuse x (at p)) = refl
 
 some : (v : Tree) → 0 < tall v
@@ -252,7 +244,7 @@ module _ (w x : List ℕ) (l : ℕ) (c : Spot) (o : Extent) (v : Tree) (u y : Li
   pub value-sound : (drop (2 * (o .row)) w ≡ rows v ++ u) × (drop (o .text) x ≡ text v ++ y) × Valid l c v
   value-sound = out (rw t at (tree-sound l c (o .row) (drop (2 * (o .row)) w) (drop (o .text) x)))
 
-  values-step : (n : ℕ) → 0 < n → valuesAt w x l c n o ≡ joined v (valuesAt w x l (next c (root v)) (n - 1) (reach c o v))
+  values-step : (n : ℕ) → 0 < n → valuesAt w x l c n o ≡ joined v (valuesAt w x l c (n - 1) (reach c o v))
   unfolding several
   values-step zero h = absurd (omega arith)
   values-step (suc n) h =
@@ -273,21 +265,20 @@ module _ (w x : List ℕ) (l : ℕ) (c : Spot) (o : Extent) (v : Tree) (u y : Li
           small = omega (arith, g .small, size-bound v l c p (s .2));
         }
 
-    pub value-comes : (n : ℕ) → 0 < n → (b a : List ℕ) → (o .mark + length (marks v) ≤ length b → a ≡ sets b (o .mark) (marks v)) → length a ≡ length b → Comes w x l c o n b (next c (root v)) (reach c o v) (n - 1) a
+    pub value-comes : (n : ℕ) → 0 < n → (b a : List ℕ) → (o .mark + length (marks v) ≤ length b → a ≡ sets b (o .mark) (marks v)) → length a ≡ length b → Comes w x l c o n b (reach c o v) (n - 1) a
     value-comes n h b a put kept = record {
       within = value-within;
-      sure = sure-next c (root v) p (spot-fits l c v (value-sound .2));
-      mode = next-mode c (root v);
+      sure = p;
       kept = kept;
-      sum = rw (values-step n h) (total-step c o v (valuesAt w x l (next c (root v)) (n - 1) (reach c o v)));
-      marks = λ z r. rw (values-step n h) (marked-joined v b a z (o .mark) (o .mark + length (marks v)) (valuesAt w x l (next c (root v)) (n - 1) (reach c o v)) put kept refl r);
+      sum = rw (values-step n h) (total-step c o v (valuesAt w x l c (n - 1) (reach c o v)));
+      marks = λ z r. rw (values-step n h) (marked-joined v b a z (o .mark) (o .mark + length (marks v)) (valuesAt w x l c (n - 1) (reach c o v)) put kept refl r);
     }
 
-pub comes-self : (w x : List ℕ) (l : ℕ) (c : Spot) (o : Extent) (n : ℕ) (b : List ℕ) → Within w x o → Sure c → Comes w x l c o n b c o n b
-comes-self w x l c o n b g p = record { within = g; sure = p; mode = refl; kept = refl; sum = refl; marks = λ z y. y }
+pub comes-self : (w x : List ℕ) (l : ℕ) (c : Spot) (o : Extent) (n : ℕ) (b : List ℕ) → Within w x o → Sure c → Comes w x l c o n b o n b
+comes-self w x l c o n b g p = record { within = g; sure = p; kept = refl; sum = refl; marks = λ z y. y }
 
-pub comes-on : {w x : List ℕ} {l : ℕ} {c₀ c d : Spot} {o₀ o e : Extent} {n₀ n m : ℕ} {b₀ b a : List ℕ} → Comes w x l c₀ o₀ n₀ b₀ c o n b → Comes w x l c o n b d e m a → Comes w x l c₀ o₀ n₀ b₀ d e m a
-comes-on f g = record { within = g .within; sure = g .sure; mode = g .mode ∙ f .mode; kept = g .kept ∙ f .kept; sum = g .sum ∙ f .sum; marks = λ z y. f .marks z (g .marks z y) }
+pub comes-on : {w x : List ℕ} {l : ℕ} {c : Spot} {o₀ o e : Extent} {n₀ n m : ℕ} {b₀ b a : List ℕ} → Comes w x l c o₀ n₀ b₀ o n b → Comes w x l c o n b e m a → Comes w x l c o₀ n₀ b₀ e m a
+comes-on f g = record { within = g .within; sure = g .sure; kept = g .kept ∙ f .kept; sum = g .sum ∙ f .sum; marks = λ z y. f .marks z (g .marks z y) }
 
 -- no value is left
 pub finds-none : (w x : List ℕ) (l : ℕ) (c : Spot) (n : ℕ) (o : Extent) (b : List ℕ) → n ≤ 0 → Finds w x l c n o b b (Fits o)
@@ -302,15 +293,15 @@ finds-no w x l c zero o b a f h e = absurd (omega arith)
 finds-no w x l c (suc n) o b a f h e = rw e (refl, tt)
 
 -- what is found from here on is what is found from the start
-pub comes-found : {w x : List ℕ} {l : ℕ} {c₀ c : Spot} {o₀ o : Extent} {n₀ n : ℕ} {b₀ b : List ℕ} → Comes w x l c₀ o₀ n₀ b₀ c o n b → (a : List ℕ) (r : Sized) → Finds w x l c n o b a r → Finds w x l c₀ n₀ o₀ b₀ a r
+pub comes-found : {w x : List ℕ} {l : ℕ} {c : Spot} {o₀ o : Extent} {n₀ n : ℕ} {b₀ b : List ℕ} → Comes w x l c o₀ n₀ b₀ o n b → (a : List ℕ) (r : Sized) → Finds w x l c n o b a r → Finds w x l c n₀ o₀ b₀ a r
 comes-found f a r h = (h .0 ∙ f .sum, f .marks a (h .1))
 
 -- a check that fails is the refusal of all
 pub check-no : (w x : List ℕ) (l : ℕ) (c : Spot) (o : Extent) (a : ℕ) (p : Place) → checkAt w x l c o ≡ refuse a p → treeAt w x l c o ≡ refuse a p
 check-no w x l c o a p e = tree-checked l c (o .row) (drop (2 * (o .row)) w) (drop (o .text) x) ∙ rw e
 
-pub comes-no : {w x : List ℕ} {l : ℕ} {c₀ c : Spot} {o₀ o : Extent} {n₀ m : ℕ} {b₀ b : List ℕ} → Comes w x l c₀ o₀ n₀ b₀ c o m b → 0 < m → (a i : ℕ) → checkAt w x l c o ≡ refuse a (at i)
-    → Finds w x l c₀ n₀ o₀ b₀ b (Refused (record { number = a; place = i }))
+pub comes-no : {w x : List ℕ} {l : ℕ} {c : Spot} {o₀ o : Extent} {n₀ m : ℕ} {b₀ b : List ℕ} → Comes w x l c o₀ n₀ b₀ o m b → 0 < m → (a i : ℕ) → checkAt w x l c o ≡ refuse a (at i)
+    → Finds w x l c n₀ o₀ b₀ b (Refused (record { number = a; place = i }))
 comes-no {w = w} {x = x} {l = l} {c = c} {o = o} {m = m} {b = b} f h a i e =
     let r : Refusal = record { number = a; place = i } in
     comes-found f b (Refused r) (finds-no w x l c m o b b r h (check-no w x l c o a (at i) e))

@@ -4,24 +4,24 @@ use mathlib.Core.Path.{_≡_, refl, sym, ap, _∙_, subst}
 use mathlib.Core.List.{List, [], _∷_}
 use mathlib.Core.Bool.{Bool, true, false, not, _&&_}
 use native.Mathlib.Omega.{arith}
-use borrow.Author.Tests.{lt-ltb, le-leb}
+use borrow.Author.Tests.{lt-ltb, eq-eqb}
 use lib.Dec.{T, eqb, eqb→eq, leb, leb→le, ltb, ltb→lt}
 use lib.ListN.{length, take, drop, length-append, length-drop}
 use lib.Seq.{sets}
-use Rattle.standard.specs.Choose.{if, lookup}
+use Rattle.standard.specs.Choose.{if}
 use Rattle.standard.specs.Answer.{Answer, got, refuse, at, kindUnknown, elementUnfit, numberOutside, textAmiss}
 use Rattle.standard.specs.Bytes.{be}
 use Rattle.standard.specs.Tree.{Tree, node, Trees, text, text*, tall}
-use Rattle.standard.specs.Kinds.{Style, foreign, numbered, blob, lettered, listed, mapped, arrayed, describing, kinds, styleOf, isKind, member, clean}
-use Rattle.standard.specs.Table.{most, Spot, any, allowed, ranged, letters, children, firstIn, next, Row, Valid}
+use Rattle.standard.specs.Kinds.{Style, foreign, numbered, blob, lettered, listed, mapped, arrayed, describing, styleOf, isKind, clean, countIn, kindIn}
+use Rattle.standard.specs.Table.{most, Spot, any, like, allowed, naming, ranged, letters, children, spotIn, Row, Valid}
 use Rattle.standard.specs.Encode.{shortEnd}
 use Rattle.standard.specs.Facts.{if-case, T-true, and-left, and-right, clean-nil}
 use Rattle.laws.specs.Answers.{Holds, yes′, no′, on, need-holds, out}
 use Rattle.laws.specs.Numbers.{length-be}
-use Rattle.writer.specs.Heads.{head, itemWidth, bodyOf, Mode, values, elements, modeOf}
+use Rattle.writer.specs.Heads.{head, itemWidth, bodyOf, Mode, values, modeOf}
 use Rattle.writer.specs.Marks.{markWidth, marks, marks*}
 use Rattle.writer.specs.Rows.{check}
-use Rattle.writer.specs.Sizing.{Marked, Finds, headSize, codeWidth, nests, opens, arrays, numberSize, textSize, lettersSize, chosen, takenOf, Nest, Nested, begin, past, beyond, passed, inside, openHead, bodySize, closed, MarkPut, Within, Small}
+use Rattle.writer.specs.Sizing.{Marked, Finds, headSize, nests, opens, arrays, numberSize, textSize, lettersSize, chosen, takenOf, Nest, Nested, begin, past, beyond, passed, inside, openHead, closed, MarkPut, Within, Small}
 use Rattle.standard.specs.declared.refusal.Refusal.{Refusal}
 use Rattle.writer.specs.declared.sizing.Sized.{Sized}
 use Rattle.writer.specs.declared.sizing.Sized.the-variants.{Fits, Refused}
@@ -31,9 +31,9 @@ use Rattle.writer.specs.declared.sizing.Extent.{Extent}
 use Rattle.writer.proofs.Bodies.{item-wide}
 use Rattle.writer.proofs.Checks.{check-good}
 use Rattle.writer.proofs.Direct.{coded-long}
-use Rattle.writer.proofs.Sizes.{spotIn, NestRow, nest-row, nest-head, nest-case, bare-closed}
-use Rattle.writer.proofs.Spots.{element-fits}
-use Rattle.writer.proofs.Sums.{treeAt, checkAt, under, below, value-is, check-no, reach, body-size, row-size, few, widths, marked-node, same, Comes, value-sound, value-within, value-comes, comes-on, comes-found, comes-no, finds-none, finds-no, Found, found, unfit}
+use Rattle.writer.proofs.Sizes.{countBy, spotBy, NestRow, nest-row, nest-head, nest-case, bare-closed}
+use Rattle.writer.proofs.Spots.{Sure, sure-inside, element-fits}
+use Rattle.writer.proofs.Sums.{treeAt, checkAt, under, below, value-is, check-no, sizeOf, reach, body-size, row-size, few, widths, marked-node, same, Comes, value-sound, value-within, value-comes, comes-on, comes-found, comes-no, finds-none, finds-no, Found, found, unfit}
 
 -- What a good row says
 pub record Good (l : ℕ) (c : Spot) (w : List ℕ) (k n : ℕ) : Type 0 where
@@ -50,9 +50,9 @@ checked zero c i (k ∷ n ∷ w) x = on (need-holds (isKind (styleOf k)) kindUnk
 checked (suc l) c i [] x = no′
 checked (suc l) c i (k ∷ []) x = no′
 checked (suc l) c i (k ∷ n ∷ w) x =
-    on (need-holds (isKind (styleOf k)) kindUnknown (at i)) (λ u a. on (need-holds (allowed c k) elementUnfit (at i)) (λ u b. on (need-holds (ranged (styleOf k) k n) numberOutside (at i)) (λ u d.
+    on (need-holds (isKind (styleOf k)) kindUnknown (at i)) (λ u a. on (need-holds (allowed c k) elementUnfit (at i)) (λ u b. on (need-holds (naming (spotIn (styleOf k) n)) elementUnfit (at i)) (λ u o. on (need-holds (ranged (styleOf k) k n) numberOutside (at i)) (λ u d.
     on (need-holds (leb (letters (styleOf k) n) (length x)) textAmiss (at i)) (λ u e. on (need-holds (clean k (take (letters (styleOf k) n) x)) textAmiss (at i)) (λ u f.
-    yes′ (record { level = omega arith; words = refl; fits = b; inRange = d }))))))
+    yes′ (record { level = omega arith; words = refl; fits = b; inRange = d })))))))
 
 pub good : (l : ℕ) (c : Spot) (i : ℕ) (w x : List ℕ) (k n : ℕ) → check l c i w x ≡ got (k, n) → Good l c w k n
 good l c i w x k n e = out (rw e at (checked l c i w x))
@@ -72,31 +72,31 @@ abbrev after : Mode → Extent → (kind number : ℕ) → Extent → Extent
 after m o k n e = record {
   row = e .row;
   text = e .text;
-  size = o .size + (headSize m (styleOf k) k n (codeWidth (styleOf k) n + e .size) + letters (styleOf k) n + (codeWidth (styleOf k) n + e .size));
+  size = o .size + (headSize m (styleOf k) k n (e .size) + letters (styleOf k) n + e .size);
   mark = e .mark;
 }
 
 -- its mark is put
 abbrev Put : Extent → (kind number : ℕ) → Extent → (before after : List ℕ) → Type 0
-Put o k n e b a = o .mark + markWidth (styleOf k) n ≤ length b → a ≡ sets b (o .mark) (be (markWidth (styleOf k) n) (codeWidth (styleOf k) n + e .size))
+Put o k n e b a = o .mark + markWidth (styleOf k) n ≤ length b → a ≡ sets b (o .mark) (be (markWidth (styleOf k) n) (e .size))
 
 row-of : (l : ℕ) (c : Spot) (k n : ℕ) (t : List ℕ) (cs : Trees) → Valid l c (node k n t cs) → Row c k n t cs
 row-of zero c k n t cs h = absurd h
 row-of (suc l) c k n t cs h = h .0
 
 -- the next row is good, of kind k with number n
-module _ {w x : List ℕ} {l : ℕ} {c₀ c : Spot} {o₀ o : Extent} {n₀ m : ℕ} {b₀ b : List ℕ} (y : Comes w x l c₀ o₀ n₀ b₀ c o m b) (h : 0 < m) (k n : ℕ) (q : checkAt w x l c o ≡ got (k, n)) where
+module _ {w x : List ℕ} {l : ℕ} {c : Spot} {o₀ o : Extent} {n₀ m : ℕ} {b₀ b : List ℕ} (y : Comes w x l c o₀ n₀ b₀ o m b) (h : 0 < m) (k n : ℕ) (q : checkAt w x l c o ≡ got (k, n)) where
   is-good : Good l c (drop (2 * (o .row)) w) k n
   is-good = good l c (o .row) (drop (2 * (o .row)) w) (drop (o .text) x) k n q
 
   -- z is what is found of its children
-  module _ (b₁ : List ℕ) (kept : length b₁ ≡ length b) (z : Sized) (r : Finds w x (l - 1) (firstIn (styleOf k) n) (children (styleOf k) n) (under o k n) b b₁ z) where
-    turn-no : (f : Refusal) → z ≡ Refused f → Finds w x l c₀ n₀ o₀ b₀ b₁ (Refused f)
-    turn-no f e = comes-found y b₁ (Refused f) (finds-no w x l c m o b b₁ f h (value-is w x l c o k n q ∙ rw (unfit (firstIn (styleOf k) n) (under o k n) (below w x l o k n) f (sym e ∙ r .0))))
+  module _ (b₁ : List ℕ) (kept : length b₁ ≡ length b) (z : Sized) (r : Finds w x (l - 1) (spotIn (styleOf k) n) (children (styleOf k) n) (under o k n) b b₁ z) where
+    turn-no : (f : Refusal) → z ≡ Refused f → Finds w x l c n₀ o₀ b₀ b₁ (Refused f)
+    turn-no f e = comes-found y b₁ (Refused f) (finds-no w x l c m o b b₁ f h (value-is w x l c o k n q ∙ rw (unfit (spotIn (styleOf k) n) (under o k n) (below w x l o k n) f (sym e ∙ r .0))))
 
     module _ (e : Extent) (fits : z ≡ Fits e) where
-      inner : Found (firstIn (styleOf k) n) (under o k n) (below w x l o k n) e
-      inner = found (firstIn (styleOf k) n) (under o k n) (below w x l o k n) e (sym fits ∙ r .0)
+      inner : Found (spotIn (styleOf k) n) (under o k n) (below w x l o k n) e
+      inner = found (spotIn (styleOf k) n) (under o k n) (below w x l o k n) e (sym fits ∙ r .0)
 
       turned : Tree
       turned = node k n (take (letters (styleOf k) n) (drop (o .text) x)) (inner .trees)
@@ -109,9 +109,9 @@ module _ {w x : List ℕ} {l : ℕ} {c₀ c : Spot} {o₀ o : Extent} {n₀ m : 
       unfolding turned
       turned-row = row-of l c k n (take (letters (styleOf k) n) (drop (o .text) x)) (inner .trees) (value-sound w x l c o turned (inner .rest) (inner .tail) is-turned .2)
 
-      -- the body of the row
-      turned-body : length (bodyOf (styleOf k) (inner .trees)) ≡ codeWidth (styleOf k) n + e .size
-      turned-body = omega (arith, inner .size, body-size (styleOf k) n (inner .trees) (turned-row .full))
+      -- its children's bytes
+      turned-body : length (bodyOf (styleOf k) (inner .trees)) ≡ e .size
+      turned-body = omega (arith, inner .size, body-size (styleOf k) n (inner .trees))
 
       turned-at : reach c o turned ≡ after (modeOf c) o k n e
       unfolding turned tall text marks
@@ -119,13 +119,13 @@ module _ {w x : List ℕ} {l : ℕ} {c₀ c : Spot} {o₀ o : Extent} {n₀ m : 
           let t = take (letters (styleOf k) n) (drop (o .text) x) in
           let u = length (bodyOf (styleOf k) (inner .trees)) in
           same (omega (arith, inner .row)) (omega (arith, inner .letter, turned-row .long, length-append t (text* (inner .trees))))
-          (rw (← turned-body) (omega (arith, row-size c k n t (inner .trees) (y .sure) turned-row)))
+          (subst (λ (v : ℕ). o .size + sizeOf c (node k n t (inner .trees)) ≡ o .size + (headSize (modeOf c) (styleOf k) k n v + letters (styleOf k) n + v)) turned-body (omega (arith, row-size c k n t (inner .trees) (y .sure) turned-row)))
           (omega (arith, inner .mark, length-append (be (markWidth (styleOf k) n) u) (marks* (inner .trees)), length-be (markWidth (styleOf k) n) u))
 
       turn-within : Within w x (after (modeOf c) o k n e)
       turn-within = rw turned-at at (value-within w x l c o turned (inner .rest) (inner .tail) is-turned (y .within) (y .sure))
 
-      turn-on : (b₂ : List ℕ) → Put o k n e b₁ b₂ → length b₂ ≡ length b₁ → Comes w x l c₀ o₀ n₀ b₀ (next c k) (after (modeOf c) o k n e) (m - 1) b₂
+      turn-on : (b₂ : List ℕ) → Put o k n e b₁ b₂ → length b₂ ≡ length b₁ → Comes w x l c o₀ n₀ b₀ (after (modeOf c) o k n e) (m - 1) b₂
       unfolding turned marks Marked
       turn-on b₂ d s =
           rw turned-at at
@@ -136,15 +136,13 @@ module _ {w x : List ℕ} {l : ℕ} {c₀ c : Spot} {o₀ o : Extent} {n₀ m : 
   -- it has no children, u bytes of text and takes z bytes
   module _ (i : children (styleOf k) n ≡ 0) (u z : ℕ) (eu : u ≡ letters (styleOf k) n) (ez : z ≡ headSize (modeOf c) (styleOf k) k n 0 + u) where
     leaf-at : after (modeOf c) o k n (under o k n) ≡ past o u z
-    leaf-at =
-        let e : codeWidth (styleOf k) n + 0 ≡ 0 = omega (arith, widths (styleOf k) n .2 i) in
-        same refl (omega arith) (rw (e, ez, eu) (omega arith)) (omega (arith, widths (styleOf k) n .2 i))
+    leaf-at = same refl (omega arith) (rw (ez, eu) (omega arith)) (omega (arith, widths (styleOf k) n .1 i))
 
-    pub leaf-on : Comes w x l c₀ o₀ n₀ b₀ (next c k) (past o u z) (m - 1) b
+    pub leaf-on : Comes w x l c o₀ n₀ b₀ (past o u z) (m - 1) b
     unfolding be
     leaf-on =
-        let r = finds-none w x (l - 1) (firstIn (styleOf k) n) (children (styleOf k) n) (under o k n) b (omega arith) in
-        let e : markWidth (styleOf k) n ≡ 0 = omega (arith, widths (styleOf k) n .2 i) in
+        let r = finds-none w x (l - 1) (spotIn (styleOf k) n) (children (styleOf k) n) (under o k n) b (omega arith) in
+        let e : markWidth (styleOf k) n ≡ 0 = widths (styleOf k) n .1 i in
         rw leaf-at at (turn-on b refl (Fits (under o k n)) r (under o k n) refl b (λ v. rw e) refl)
 
   -- it has children
@@ -153,31 +151,34 @@ module _ {w x : List ℕ} {l : ℕ} {c₀ c : Spot} {o₀ o : Extent} {n₀ m : 
     nest = nest-row k n i
 
     -- the place of the first of them
-    pub nest-first : Within w x (inside o k) × (0 < l) × (0 < n)
+    pub nest-first : Within w x (inside o k) × (0 < l) × (0 < countBy k n)
     nest-first =
         let g = y .within in
         (record { rows = omega (arith, g .rows, ap length (is-good .words), length-drop (2 * (o .row)) w); letters = g .letters; marked = omega (arith, g .marked, few 3 k); small = omega arith }, is-good .level, omega (arith, nest .full))
 
+    pub nest-sure : Sure (spotBy k n)
+    nest-sure = rw (← nest .spot) (sure-inside (styleOf k) k n (is-good .inRange))
+
     -- z is what is found of them
-    module _ (b₁ : List ℕ) (kept : length b₁ ≡ length b) (z : Sized) (r : Finds w x (l - 1) (spotIn k) n (inside o k) b b₁ z) where
-      nest-finds : Finds w x (l - 1) (firstIn (styleOf k) n) (children (styleOf k) n) (under o k n) b b₁ z
+    module _ (b₁ : List ℕ) (kept : length b₁ ≡ length b) (z : Sized) (r : Finds w x (l - 1) (spotBy k n) (countBy k n) (inside o k) b b₁ z) where
+      nest-finds : Finds w x (l - 1) (spotIn (styleOf k) n) (children (styleOf k) n) (under o k n) b b₁ z
       nest-finds = let j : o .text + 0 ≡ o .text = omega arith in rw (nest .spot, nest .full, nest .silent, nest .marked, j) r
 
-      pub nest-no : (f : Refusal) → z ≡ Refused f → Finds w x l c₀ n₀ o₀ b₀ b₁ (Refused f)
+      pub nest-no : (f : Refusal) → z ≡ Refused f → Finds w x l c n₀ o₀ b₀ b₁ (Refused f)
       nest-no = turn-no b₁ kept z nest-finds
 
-      -- its head has d bytes, and its body has u
-      module _ (e : Extent) (fits : z ≡ Fits e) (d u : ℕ) (ed : d ≡ openHead (modeOf c) k u) (eu : u ≡ bodySize k (e .size)) where
-        nest-at : after (modeOf c) o k n e ≡ closed o d u e
-        nest-at = same refl refl (rw (nest .body (e .size), ← eu, nest-head nest (modeOf c) (element-fits c k (y .sure) (is-good .fits)) u, ← ed) (omega (arith, nest .silent))) refl
+      -- its head has d bytes
+      module _ (e : Extent) (fits : z ≡ Fits e) (d : ℕ) (ed : d ≡ openHead (modeOf c) k (e .size)) where
+        nest-at : after (modeOf c) o k n e ≡ closed o d (e .size) e
+        nest-at = same refl refl (rw (nest-head nest (modeOf c) (element-fits c k (y .sure) (is-good .fits)) (e .size), ← ed) (omega (arith, nest .silent))) refl
 
-        pub nest-sums : length w * 8 < 2 ^ 63 → length x * 1 < 2 ^ 63 → (e .size + 1 < 2 ^ 64) × (o .size + (d + u) < 2 ^ 64) × (o .mark + 3 < 2 ^ 64)
+        pub nest-sums : length w * 8 < 2 ^ 63 → length x * 1 < 2 ^ 63 → (e .size + 1 < 2 ^ 64) × (o .size + (d + e .size) < 2 ^ 64) × (o .mark + 3 < 2 ^ 64)
         nest-sums s t =
             let v = turn-within b₁ kept z nest-finds e fits in
             (omega (arith, v .small, v .rows, v .letters), small (subst (Within w x) nest-at v) s t .size, small (y .within) s t .mark)
 
-        pub nest-on : (b₂ : List ℕ) → MarkPut b₁ (o .mark) k u b₂ → length b₂ ≡ length b₁ → Comes w x l c₀ o₀ n₀ b₀ (next c k) (closed o d u e) (m - 1) b₂
-        nest-on b₂ put s = rw nest-at at (turn-on b₁ kept z nest-finds e fits b₂ (rw (nest .marked, nest .body (e .size), ← eu) put) s)
+        pub nest-on : (b₂ : List ℕ) → MarkPut b₁ (o .mark) k (e .size) b₂ → length b₂ ≡ length b₁ → Comes w x l c o₀ n₀ b₀ (closed o d (e .size) e) (m - 1) b₂
+        nest-on b₂ put s = rw nest-at at (turn-on b₁ kept z nest-finds e fits b₂ (rw (nest .marked) put) s)
 
 -- Which a row is
 
@@ -215,38 +216,32 @@ open-nests s k n r = go (eqb k 0xf0) (nests s k n)
     go true b e f = e ∙ sym f
     go false b e f = e
 
--- An element
+-- An element of an array that tells the kind j
 
-pub like-first : (k : ℕ) → (member (styleOf k) && ltb 0 k) ≡ (member (styleOf k) && member (styleOf k))
-unfolding lookup kinds styleOf member
-like-first zero = refl
-like-first (suc k) = rw (lt-ltb 0 (suc k) (omega arith)) (go (member (styleOf (suc k))))
-  where
-    go : (m : Bool) → (m && true) ≡ (m && m)
-    go true = refl
-    go false = refl
+pub element-low : (l j : ℕ) (w : List ℕ) → j < 0xd0 → Nested l (like j) w 0 0 false
+unfolding allowed
+element-low l j w h i x k n q t =
+    let e : k ≡ j = eqb→eq k j (good l (like j) i w x k n q .fits) in
+    nest-case k n (λ z. z) (λ i r. absurd (omega (arith, leb→le 0xd0 k (subst T (r .fit) t))))
 
-alike : (m a b : Bool) → (m && a) ≡ (m && b) → T m → a ≡ b
-alike true a b e t = e
-alike false a b e t = absurd t
+-- a good one is of that kind
+pub nest-told : (l j : ℕ) (w : List ℕ) (k n : ℕ) → Nest l (like j) w k n → Nest l (like j) w j n
+unfolding allowed
+nest-told l j w k n h = subst (λ (i : ℕ). Nest l (like j) w i n) (eqb→eq k j (good l (like j) 0 w [] k n (h .0 0 []) .fits)) h
 
-pub element-low : (l : ℕ) (c : Spot) (k n : ℕ) (w : List ℕ) → k < 0xd0 → Nested l c (k ∷ n ∷ w) k n false
-element-low l c k n w h i x j m q t =
-    let g = good l c i (k ∷ n ∷ w) x j m q in
-    let a : j ≡ k = cc in
-    nest-case j m (λ z. z) (λ i r. absurd (omega (arith, leb→le 0xd0 j (subst T (r .fit) t))))
+-- in front of words
+module _ (l j k n : ℕ) (w : List ℕ) where
+  pub element-unlike : ¬ (k ≡ j) → Nested l (like j) (k ∷ n ∷ w) k n false
+  unfolding allowed
+  element-unlike f i x k₁ n₁ q t =
+      let g = good l (like j) i (k ∷ n ∷ w) x k₁ n₁ q in
+      let a : k₁ ≡ k = cc in
+      absurd (f (sym a ∙ eqb→eq k₁ j (g .fits)))
 
--- one in front of words, of a kind that is like those before it
-module _ (l : ℕ) (c : Spot) (k n : ℕ) (w : List ℕ) (b : Bool) (e : (member (styleOf k) && b) ≡ (member (styleOf k) && allowed c k)) where
-  pub element-unlike : b ≡ false → Nested l c (k ∷ n ∷ w) k n false
-  element-unlike f i x j m q t =
-      let g = good l c i (k ∷ n ∷ w) x j m q in
-      let a : j ≡ k = cc in
-      absurd (subst T (sym (alike (member (styleOf k)) b (allowed c k) e (rw a at t)) ∙ f) (rw a at (g .fits)))
-
-  pub element-is : b ≡ true → 0 < l → 0xd0 ≤ k → (r : Bool) → r ≡ nests (styleOf k) k n → Nested l c (k ∷ n ∷ w) k n r
-  element-is f h i true g = nest-good l c k n w h (λ r. sym (alike (member (styleOf k)) b (allowed c k) e (rw (r .fit, le-leb 0xd0 k i) tt)) ∙ f) g
-  element-is f h i false g = λ i x j m q t. nest-bare l c k n w g i x j m q
+  pub element-is : k ≡ j → 0 < l → (r : Bool) → r ≡ nests (styleOf k) k n → Nested l (like j) (k ∷ n ∷ w) k n r
+  unfolding allowed
+  element-is f h true g = nest-good l (like j) k n w h (λ r. eq-eqb k j f) g
+  element-is f h false g = λ i x k₁ n₁ q t. nest-bare l (like j) k n w g i x k₁ n₁ q
 
 -- A number, or letters: a row without children with y bytes of text, which takes z bytes
 pub record LeafRow (s : Style) (k n : ℕ) (x : List ℕ) (y z : ℕ) : Type 0 where
@@ -310,8 +305,11 @@ abbrev pub Told : (l : ℕ) (w x : List ℕ) → Taken → Type 0
 Told l w x (Number z) = Leaf l w x 0 z
 Told l w x (Letters y z) = Leaf l w x y z
 Told l w x (Open k n) = Nest l any w k n × (eqb k 0xf0 ≡ false)
-Told l w x (Array n) = Nest l any w 0xf0 n
+Told l w x (Array j c) = (n : ℕ) × Nest l any w 0xf0 n × (kindIn n ≡ j) × (countIn n ≡ c)
 Told l w x Other = (i : ℕ) (x : List ℕ) (k n : ℕ) → check l any i w x ≡ got (k, n) → children (styleOf k) n ≡ 0
+
+pub no-array : (k : ℕ) → eqb k 0xf0 ≡ false → k ≡ 0xf0 → ⊥
+no-array k e f = subst T (rw f at e) tt
 
 not-T : (b : Bool) → T (not b) → b ≡ false
 not-T true t = absurd t
@@ -328,7 +326,7 @@ told (suc l) (k ∷ n ∷ w) x =
     if-case P (opens s k n) _ _ (λ t. (nest-good (suc l) any k n w (omega arith) (λ r. refl) (both (not (eqb k 0xf0)) (nests s k n) (T-true _ t)), not-T (eqb k 0xf0) (and-left (not (eqb k 0xf0)) (nests s k n) t)))
     (λ t. if-case P (ltb 0 (numberSize s k n)) _ _ (λ u. leaf (suc l) k n w x 0 (numberSize s k n) (omega arith) (leaf-row s k n x .0 (ltb→lt 0 (numberSize s k n) u)))
     (λ u. if-case P (ltb 0 (lettersSize s k n x)) _ _ (λ v. leaf (suc l) k n w x n (lettersSize s k n x) (omega arith) (leaf-row s k n x .1 (ltb→lt 0 (lettersSize s k n x) v)))
-    (λ v. if-case P (arrays s k n) _ _ (λ y. subst (λ (j : ℕ). Nest (suc l) any (k ∷ n ∷ w) j n) (eqb→eq k 0xf0 (and-left (eqb k 0xf0) (nests s k n) y)) (nest-good (suc l) any k n w (omega arith) (λ r. refl) (array-nests s k n (T-true _ y))))
+    (λ v. if-case P (arrays s k n) _ _ (λ y. (n, subst (λ (j : ℕ). Nest (suc l) any (k ∷ n ∷ w) j n) (eqb→eq k 0xf0 (and-left (eqb k 0xf0) (nests s k n) y)) (nest-good (suc l) any k n w (omega arith) (λ r. refl) (array-nests s k n (T-true _ y))), refl, refl))
     (λ y. nest-bare (suc l) any k n w (open-nests s k n false (sym (not-T (opens s k n) t)) (not-T (arrays s k n) y))))))
 
 pub told-as : (l : ℕ) (w x : List ℕ) (t : Taken) → takenOf l w x ≡ t → Told l w x t
@@ -359,33 +357,34 @@ taken-plain l k n w x h z e i = taken-is l k n w x h false (bare-closed (styleOf
 
 -- Values without children
 
-pub values-leaf : {w x : List ℕ} {l : ℕ} {c₀ : Spot} {o₀ o : Extent} {n₀ m : ℕ} {b₀ b : List ℕ} → Comes w x l c₀ o₀ n₀ b₀ any o m b → 0 < m → (u z : ℕ) → Leaf l (drop (2 * (o .row)) w) (drop (o .text) x) u z → Comes w x l c₀ o₀ n₀ b₀ any (past o u z) (m - 1) b
-unfolding modeOf next
+pub values-leaf : {w x : List ℕ} {l : ℕ} {o₀ o : Extent} {n₀ m : ℕ} {b₀ b : List ℕ} → Comes w x l any o₀ n₀ b₀ o m b → 0 < m → (u z : ℕ) → Leaf l (drop (2 * (o .row)) w) (drop (o .text) x) u z → Comes w x l any o₀ n₀ b₀ (past o u z) (m - 1) b
+unfolding modeOf
 values-leaf {o = o} y h u z f = leaf-on y h (f .kind) (f .number) (f .checks (o .row)) (f .row .barren) u z (f .row .worded) (f .row .sized)
 
 -- what is said of another row: the place behind it, or its refusal
-abbrev pub Rowed : (w x : List ℕ) → (l : ℕ) → Spot → Extent → (n : ℕ) → (b₀ : List ℕ) → (m : ℕ) → (b : List ℕ) → Sized → Type 0
-Rowed w x l c₀ o₀ n₀ b₀ m b (Fits e) = Comes w x l c₀ o₀ n₀ b₀ any e (m - 1) b
-Rowed w x l c₀ o₀ n₀ b₀ m b (Refused f) = Finds w x l c₀ n₀ o₀ b₀ b (Refused f)
+abbrev pub Rowed : (w x : List ℕ) → (l : ℕ) → Extent → (n : ℕ) → (b₀ : List ℕ) → (m : ℕ) → (b : List ℕ) → Sized → Type 0
+Rowed w x l o₀ n₀ b₀ m b (Fits e) = Comes w x l any o₀ n₀ b₀ e (m - 1) b
+Rowed w x l o₀ n₀ b₀ m b (Refused f) = Finds w x l any n₀ o₀ b₀ b (Refused f)
 
-module _ {w x : List ℕ} {l : ℕ} {c₀ : Spot} {o₀ o : Extent} {n₀ m : ℕ} {b₀ b : List ℕ} (y : Comes w x l c₀ o₀ n₀ b₀ any o m b) (h : 0 < m) (t : takenOf l (drop (2 * (o .row)) w) (drop (o .text) x) ≡ Other) where
-  pub other-on : (k n : ℕ) → checkAt w x l any o ≡ got (k, n) → Comes w x l c₀ o₀ n₀ b₀ any (beyond values o k n) (m - 1) b
-  unfolding modeOf next
+module _ {w x : List ℕ} {l : ℕ} {o₀ o : Extent} {n₀ m : ℕ} {b₀ b : List ℕ} (y : Comes w x l any o₀ n₀ b₀ o m b) (h : 0 < m) (t : takenOf l (drop (2 * (o .row)) w) (drop (o .text) x) ≡ Other) where
+  pub other-on : (k n : ℕ) → checkAt w x l any o ≡ got (k, n) → Comes w x l any o₀ n₀ b₀ (beyond values o k n) (m - 1) b
+  unfolding modeOf
   other-on k n q = leaf-on y h k n q (told-as l (drop (2 * (o .row)) w) (drop (o .text) x) Other t (o .row) (drop (o .text) x) k n q) _ _ refl refl
 
-  pub other-rowed : Rowed w x l c₀ o₀ n₀ b₀ m b (passed o (checkAt w x l any o))
+  pub other-rowed : Rowed w x l o₀ n₀ b₀ m b (passed o (checkAt w x l any o))
   other-rowed = go (checkAt w x l any o) refl
     where
-      go : (a : Answer (ℕ × ℕ)) → checkAt w x l any o ≡ a → Rowed w x l c₀ o₀ n₀ b₀ m b (passed o a)
+      go : (a : Answer (ℕ × ℕ)) → checkAt w x l any o ≡ a → Rowed w x l o₀ n₀ b₀ m b (passed o a)
       go (got (k, n)) q = other-on k n q
       go (refuse a (at i)) q = comes-no y h a i q
 
 -- an element without children, by its style s
-pub element-on : {w x : List ℕ} {l : ℕ} {c₀ c : Spot} {o₀ o : Extent} {n₀ m : ℕ} {b₀ b : List ℕ} → Comes w x l c₀ o₀ n₀ b₀ c o m b → 0 < m → modeOf c ≡ elements → (k n : ℕ) → checkAt w x l c o ≡ got (k, n)
-    → Nested l c (drop (2 * (o .row)) w) k n false → (s : Style) → s ≡ styleOf k → (u z : ℕ) → u ≡ letters s n → z ≡ itemWidth s → Comes w x l c₀ o₀ n₀ b₀ (next c k) (past o u (z + u)) (m - 1) b
-element-on {w = w} {x = x} {l = l} {c = c} {o = o} y h e k n q f s d u z eu ez =
-    let t = element-fits c k (y .sure) (good l c (o .row) (drop (2 * (o .row)) w) (drop (o .text) x) k n q .fits) e in
-    leaf-on y h k n q (f (o .row) (drop (o .text) x) k n q t) u (z + u) (rw d at eu) (rw (e, item-wide (styleOf k) n 0, ← d, ← ez))
+pub element-on : {w x : List ℕ} {l j : ℕ} {o₀ o : Extent} {n₀ m : ℕ} {b₀ b : List ℕ} → Comes w x l (like j) o₀ n₀ b₀ o m b → 0 < m → (k n : ℕ) → checkAt w x l (like j) o ≡ got (k, n)
+    → Nested l (like j) (drop (2 * (o .row)) w) k n false → (s : Style) → s ≡ styleOf k → (u z : ℕ) → u ≡ letters s n → z ≡ itemWidth s → Comes w x l (like j) o₀ n₀ b₀ (past o u (z + u)) (m - 1) b
+unfolding modeOf
+element-on {w = w} {x = x} {l = l} {j = j} {o = o} y h k n q f s d u z eu ez =
+    let t = element-fits (like j) k (y .sure) (good l (like j) (o .row) (drop (2 * (o .row)) w) (drop (o .text) x) k n q .fits) refl in
+    leaf-on y h k n q (f (o .row) (drop (o .text) x) k n q t) u (z + u) (rw d at eu) (rw (item-wide (styleOf k) n 0, ← d, ← ez))
 
 -- where no level is left the spot does not matter, and the first row is refused
 check-spot : (c d : Spot) (i : ℕ) (w x : List ℕ) → check 0 c i w x ≡ check 0 d i w x

@@ -6,7 +6,7 @@ use native.Mathlib.Omega.{arith}
 use borrow.Author.Tests.{le-leb, lt-leb, ne-eqb}
 use lib.ListN.{length, length-append}
 use lib.Seq.{sets}
-use Rattle.standard.specs.Answer.{Answer, got, refuse, Place, at, _>>=_, _>>_, rowsAmiss, textAmiss, tooLong}
+use Rattle.standard.specs.Answer.{Answer, got, refuse, Place, at, _>>=_, rowsAmiss, textAmiss, tooLong}
 use Rattle.standard.specs.Tree.{Tree, Trees, none, more, rows, text, tall, tall*, text*}
 use Rattle.standard.specs.Table.{most, any, several, tree, spent, table}
 use Rattle.standard.specs.Encode.{encode, encode*}

@@ -10,7 +10,7 @@ use Rattle.standard.specs.Answer.{Answer, got, refuse, Place, at, _>>=_, output
 use Rattle.standard.specs.Tree.{Tree}
 use Rattle.standard.specs.Table.{any, tree, table}
 use Rattle.standard.specs.Encode.{encode}
-use Rattle.standard.specs.Outcomes.{bytesOf, size, Writing, writtenTo, write}
+use Rattle.standard.specs.Outcomes.{bytesOf, size, writtenTo, write}
 use Rattle.laws.specs.Tables.{table-holds}
 use Rattle.laws.specs.Stores.{front-over, drop-take}
 use Rattle.writer.specs.Heads.{modeOf}

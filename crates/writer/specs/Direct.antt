@@ -43,6 +43,16 @@ isListOrMap (mapped s) = true
 isListOrMap (arrayed s) = false
 isListOrMap describing = false
 
+abbrev pub isArrayed : Style → Bool
+isArrayed foreign = false
+isArrayed (numbered s w) = false
+isArrayed (blob w) = false
+isArrayed (lettered s) = false
+isArrayed (listed e s) = false
+isArrayed (mapped s) = false
+isArrayed (arrayed s) = true
+isArrayed describing = false
+
 -- the head of a number; nothing of other rows
 unfoldable pub numberHead : Style → (kind number : ℕ) → List ℕ
 numberHead s k n = if (isNumber s) (head s k n 0) []

@@ -1,14 +1,13 @@
 -- Filling: what the rows at a cursor are, and what writing them leaves, where the marks of compounds stand in the output behind what is written.
-use Prim.Native.Nat.{ℕ, _+_, _*_, _%_, _≤_, _<_}
+use Prim.Native.Nat.{ℕ, _+_, _*_, _%_, _≤_}
 use mathlib.Core.Path.{_≡_}
-use mathlib.Core.List.{List, _∷_, _++_}
-use mathlib.Core.Bool.{Bool, true, false}
+use mathlib.Core.List.{List, _++_}
 use lib.Dec.{T}
 use lib.ListN.{length, take, drop, getD}
 use lib.Seq.{sets}
 use Rattle.standard.specs.Bytes.{unbe}
-use Rattle.standard.specs.Tree.{Tree, Trees, none, more, root, count, rows, rows*, text, text*, tall*}
-use Rattle.standard.specs.Kinds.{Style, foreign, numbered, blob, lettered, listed, mapped, arrayed, describing, styleOf, member}
+use Rattle.standard.specs.Tree.{Tree, Trees, none, more, rows, rows*, text, text*, tall*}
+use Rattle.standard.specs.Kinds.{styleOf, member}
 use Rattle.standard.specs.Table.{most, any, like, letters, All, Valid}
 use Rattle.standard.specs.Encode.{encode, encode*, payloads}
 use Rattle.writer.specs.Heads.{Mode, values, elements, headIn}
@@ -23,10 +22,6 @@ fresh m = record { row = 0; text = 0; at = 0; mark = m }
 -- behind a row of so many bytes, so many of them text, with a mark of that width
 abbrev pub behind : Cursor → (size letters width : ℕ) → Cursor
 behind c s l w = record { row = c .row + 1; text = c .text + l; at = c .at + s; mark = c .mark + w }
-
--- behind a code
-abbrev pub coded : Cursor → Cursor
-coded c = record { row = c .row; text = c .text; at = c .at + 1; mark = c .mark }
 
 -- behind values and elements
 abbrev pub beyond : Cursor → (values elements : Trees) → Cursor
@@ -67,29 +62,14 @@ pub record Stepped (m : Mode) (words text out : List ℕ) (c : Cursor) (after : 
   pub bytes : after ≡ sets out (c .at) (ownAt m words text out c)
   pub place : r ≡ behind c (length (ownAt m words text out c)) (lettersAt words c) (markAt words c)
 
--- lists, maps and arrays, whose heads tell a size
-unfoldable pub isBoxed : Style → Bool
-isBoxed foreign = false
-isBoxed (numbered s w) = false
-isBoxed (blob w) = false
-isBoxed (lettered s) = false
-isBoxed (listed e s) = true
-isBoxed (mapped s) = true
-isBoxed (arrayed s) = true
-isBoxed describing = false
-
 -- Several
 
--- elements of an array, all of kind k
-abbrev pub Items : (levels kind : ℕ) → Trees → Type 0
-Items l k none = Unit {0}
-Items l k (more v vs) = (root v ≡ k) × T (member (styleOf k)) × Valid l (like k) v × Items l k vs
-
--- The rows at a cursor are those of values and then of elements, with their text and their marks. What is written for them does not go beyond the last of these marks
+-- The rows at a cursor are those of values and then of elements of that kind, which arrays may hold, with their text and their marks. What is written for them does not go beyond the last of these marks
 pub record Pending (words text out : List ℕ) (c : Cursor) (kind : ℕ) (us vs : Trees) : Type 0 where
   pub levels : ℕ
   pub sound : All (λ d v. Valid levels d v) any us
-  pub alike : Items levels kind vs
+  pub alike : All (λ d v. Valid levels d v) (like kind) vs
+  pub fit : T (member (styleOf kind))
   pub here : c .text ≤ length text
   pub within : c .mark ≤ length out
   pub rowsBehind : List ℕ

@@ -1,22 +1,22 @@
 -- What stands before the text of a row: its format code, and its number or its size and count (docs/FORMAT.md, 3).
--- `compact-head` and `wide-head` of proofs/Bodies.antt say that a value and an element are their head, their text and their body.
-use Prim.Native.Nat.{ℕ, _+_}
+-- `compact-head` and `wide-head` of proofs/Bodies.antt say that a value and an element are their head, their text and their children's bytes.
+use Prim.Native.Nat.{ℕ, suc, _+_, _%_}
 use mathlib.Core.List.{List, [], _∷_, _++_}
 use mathlib.Core.Bool.{Bool, true, false}
 use lib.Dec.{eqb, ltb}
 use Rattle.standard.specs.Choose.{if}
 use Rattle.standard.specs.Bytes.{be}
 use Rattle.standard.specs.Tree.{Tree, Trees}
-use Rattle.standard.specs.Kinds.{Style, foreign, numbered, blob, lettered, listed, mapped, arrayed, describing}
-use Rattle.standard.specs.Table.{Spot, any, first, like, firstIn}
-use Rattle.standard.specs.Encode.{shortEnd, shortest, headed, encode, encode*, item, payloads}
+use Rattle.standard.specs.Kinds.{Style, foreign, numbered, blob, lettered, listed, mapped, arrayed, describing, countIn, kindIn}
+use Rattle.standard.specs.Table.{Spot, any, like, spotIn}
+use Rattle.standard.specs.Encode.{shortEnd, shortest, encode, encode*, item, payloads}
 use Rattle.writer.specs.declared.head.Head.{Head}
 
 -- code, size and count before a body of so many bytes
 unfoldable pub enclosure : (short wide count body : ℕ) → List ℕ
 enclosure s k n b = if (ltb b shortEnd) (s ∷ be 1 (1 + b) ++ be 1 n) (k ∷ be 4 (4 + b) ++ be 4 n)
 
--- before the text of a value whose body has so many bytes
+-- before the text of a value whose children take so many bytes. An array's elements stand behind their code
 unfoldable pub head : Style → (kind number body : ℕ) → List ℕ
 head foreign k n b = k ∷ []
 head (numbered s w) k n b = shortest s w k n
@@ -24,10 +24,10 @@ head (blob w) k n b = k ∷ []
 head (lettered s) k n b = if (ltb n shortEnd) (s ∷ be 1 n) (k ∷ be 4 n)
 head (listed e s) k n b = if (eqb n 0) (e ∷ []) (enclosure s k n b)
 head (mapped s) k n b = enclosure s k n b
-head (arrayed s) k n b = enclosure s k n b
+head (arrayed s) k n b = enclosure s k (countIn n) (suc b) ++ (kindIn n % 256 ∷ [])
 head describing k n b = k ∷ []
 
--- before the text of an element of an array whose body has so many bytes: it has no code of its own and no short form
+-- before the text of an element of an array whose children take so many bytes: it has no code of its own and no short form
 unfoldable pub itemHead : Style → (number body : ℕ) → List ℕ
 itemHead foreign n b = []
 itemHead (numbered s w) n b = be w n
@@ -35,10 +35,10 @@ itemHead (blob w) n b = []
 itemHead (lettered s) n b = be 4 n
 itemHead (listed e s) n b = be 4 (4 + b) ++ be 4 n
 itemHead (mapped s) n b = be 4 (4 + b) ++ be 4 n
-itemHead (arrayed s) n b = be 4 (4 + b) ++ be 4 n
+itemHead (arrayed s) n b = be 4 (4 + suc b) ++ be 4 (countIn n) ++ (kindIn n % 256 ∷ [])
 itemHead describing n b = []
 
--- and how many bytes that is
+-- how many bytes that is
 unfoldable pub itemWidth : Style → ℕ
 itemWidth foreign = 0
 itemWidth (numbered s w) = w
@@ -46,10 +46,14 @@ itemWidth (blob w) = 0
 itemWidth (lettered s) = 4
 itemWidth (listed e s) = 8
 itemWidth (mapped s) = 8
-itemWidth (arrayed s) = 8
+itemWidth (arrayed s) = 9
 itemWidth describing = 0
 
--- the bytes of a row's children: an array's stand behind their code
+-- how many bytes stand before the elements of an array that stands in none, by theirs
+abbrev pub arrayWidth : (elements : ℕ) → ℕ
+arrayWidth b = suc (if (ltb (suc b) shortEnd) 3 9)
+
+-- the bytes of a row's children
 unfoldable pub bodyOf : Style → Trees → List ℕ
 bodyOf foreign cs = encode* cs
 bodyOf (numbered s w) cs = encode* cs
@@ -57,7 +61,7 @@ bodyOf (blob w) cs = encode* cs
 bodyOf (lettered s) cs = encode* cs
 bodyOf (listed e s) cs = encode* cs
 bodyOf (mapped s) cs = encode* cs
-bodyOf (arrayed s) cs = headed cs (payloads cs)
+bodyOf (arrayed s) cs = payloads cs
 bodyOf describing cs = encode* cs
 
 -- a code and up to two numbers, with their widths
@@ -77,12 +81,16 @@ modeIs false = values
 
 unfoldable pub modeOf : Spot → Mode
 modeOf any = values
-modeOf first = elements
 modeOf (like k) = elements
+
+-- before the code of an array's elements, with a body of so many bytes
+abbrev pub arrayFields : Mode → (count body : ℕ) → List ℕ
+arrayFields values n b = enclosure 0xe0 0xf0 n b
+arrayFields elements n b = be 4 (4 + b) ++ be 4 n
 
 -- what the children of a row are
 abbrev pub inside : Style → (number : ℕ) → Mode
-inside s n = modeOf (firstIn s n)
+inside s n = modeOf (spotIn s n)
 
 -- the bytes of a row before its text, of a row with its children, and of several
 abbrev pub headIn : Mode → Style → (kind number body : ℕ) → List ℕ

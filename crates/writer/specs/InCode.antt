@@ -4,9 +4,9 @@ use mathlib.Core.Path.{_≡_}
 use Rattle.standard.specs.Answer.{Answer, got, refuse, at}
 use Rattle.standard.specs.InCode.{styleIs, refusalIs}
 use Rattle.standard.specs.Kinds.{styleOf}
-use Rattle.standard.specs.Table.{Spot, any, first, like}
+use Rattle.standard.specs.Table.{Spot, any, like}
 use Rattle.writer.specs.declared.row.IsArrayElement.{IsArrayElement}
-use Rattle.writer.specs.declared.row.IsArrayElement.the-variants.{False, FirstElement, OtherElement}
+use Rattle.writer.specs.declared.row.IsArrayElement.the-variants.{False, OfKind}
 use Rattle.writer.specs.declared.row.Checked.{Checked}
 use Rattle.writer.specs.declared.row.Checked.the-variants.{Good, Bad}
 use Rattle.writer.specs.declared.Written.{Written}
@@ -14,8 +14,7 @@ use Rattle.writer.specs.declared.Written.the-variants.{Length, Refused}
 
 abbrev pub spotIs : IsArrayElement → Spot
 spotIs False = any
-spotIs FirstElement = first
-spotIs (OtherElement k) = like k
+spotIs (OfKind k) = like k
 
 -- a row's kind and number, or its refusal at that row
 abbrev pub checkedIs : (row : ℕ) → Checked → Answer (ℕ × ℕ)

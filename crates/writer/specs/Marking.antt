@@ -2,29 +2,31 @@
 use Prim.Native.Nat.{ℕ, _+_, _*_, _-_, _/_, _%_, _^_, _≤_, _<_}
 use mathlib.Core.Path.{_≡_}
 use mathlib.Core.List.{List, [], _∷_}
-use mathlib.Core.Bool.{Bool, true, false, _&&_}
+use mathlib.Core.Bool.{Bool, true, false}
 use mir.Val.{boolByte}
 use lib.Dec.{eqb, ltb}
 use lib.ListN.{length, getD}
 use lib.Seq.{sets}
 use Rattle.standard.specs.Choose.{if}
 use Rattle.standard.specs.Tree.{Tree, rows}
-use Rattle.standard.specs.Kinds.{Style, styleOf}
+use Rattle.standard.specs.Kinds.{Style, styleOf, countIn}
 use Rattle.standard.specs.Table.{most, any, letters, Valid}
 use Rattle.standard.specs.Encode.{shortEnd, encode}
 use Rattle.standard.specs.Outcomes.{levelMost}
-use Rattle.writer.specs.Heads.{Mode, values, elements, modeIs, headIn}
+use Rattle.writer.specs.Heads.{Mode, values, elements, modeIs, arrayWidth, headIn}
 use Rattle.writer.specs.Marks.{markWidth, marks}
 use Rattle.writer.specs.declared.marking.Point.{Point}
 
--- is a row a list, a map or an array that is not empty: a row of a style with marks, and with children
+-- is a row a list, a map or an array that is not empty: a row with a mark
 abbrev pub boxes : Style → (number : ℕ) → Bool
-boxes s n = ltb 0 (markWidth s 1) && ltb 0 n
+boxes s n = ltb 0 (markWidth s n)
 
--- the bytes before a body of so many bytes
-unfoldable pub boxWidth : Mode → (body : ℕ) → ℕ
-boxWidth values b = if (ltb b shortEnd) 3 9
-boxWidth elements b = 8
+-- the bytes before children that take so many: those of an array, its elements, stand behind their code
+unfoldable pub boxWidth : Mode → (array : Bool) → (children : ℕ) → ℕ
+boxWidth values true b = arrayWidth b
+boxWidth values false b = if (ltb b shortEnd) 3 9
+boxWidth elements true b = 9
+boxWidth elements false b = 8
 
 -- The row at a point
 
@@ -66,15 +68,15 @@ fromStart m = record { row = 0; size = 0; mark = m; left = 1; elements = false; 
 abbrev pub beyond : Point → (size children : ℕ) → Point
 beyond c z n = record { row = c .row + 1; size = c .size + z; mark = c .mark; left = c .left - 1 + n; elements = c .elements; top = c .top }
 
--- at the first child of a list, a map or an array: the code of an array's elements is the first byte of its body
-abbrev pub entered : Point → (kind number : ℕ) → Point
-entered c k n = record { row = c .row + 1; size = c .size + boolByte (eqb k 0xf0); mark = c .mark + 3; left = n; elements = eqb k 0xf0; top = c .top + 3 }
+-- at the first of so many children of a list, a map or an array
+abbrev pub entered : Point → (kind count : ℕ) → Point
+entered c k n = record { row = c .row + 1; size = c .size; mark = c .mark + 3; left = n; elements = eqb k 0xf0; top = c .top + 3 }
 
 -- behind a compound whose children are taken
 abbrev pub closed : (stack : List ℕ) → Point → Point
 closed st c = record {
   row = c .row;
-  size = c .size + boxWidth (modeIs (elementsOn st (c .top))) (c .size - startOn st (c .top));
+  size = c .size + boxWidth (modeIs (elementsOn st (c .top))) (c .elements) (c .size - startOn st (c .top));
   mark = c .mark;
   left = leftOn st (c .top);
   elements = elementsOn st (c .top);
@@ -83,7 +85,7 @@ closed st c = record {
 
 -- behind a row of that kind and number, or at its first child; and the stack there
 abbrev pub taken : Point → (kind number : ℕ) → Point
-taken c k n = if (boxes (styleOf k) n) (entered c k n) (beyond c (bare (modeIs (c .elements)) k n) (if (eqb k 0) 2 0))
+taken c k n = if (boxes (styleOf k) n) (entered c k (countIn n)) (beyond c (bare (modeIs (c .elements)) k n) (if (eqb k 0) 2 0))
 
 abbrev pub stacked : (stack : List ℕ) → Point → (kind number : ℕ) → List ℕ
 stacked st c k n = if (boxes (styleOf k) n) (sets st (c .top) (c .size ∷ c .mark ∷ due (c .left - 1) (c .elements) ∷ [])) st

@@ -5,7 +5,7 @@ use lib.Dec.{leb}
 use lib.ListN.{length, take}
 use Rattle.standard.specs.Answer.{Answer, got, refuse, at, _>>=_, _>>_, need, rowsAmiss, kindUnknown, tooDeep, elementUnfit, numberOutside, textAmiss}
 use Rattle.standard.specs.Kinds.{styleOf, isKind, clean}
-use Rattle.standard.specs.Table.{Spot, allowed, ranged, letters}
+use Rattle.standard.specs.Table.{Spot, allowed, naming, spotIn, ranged, letters}
 
 -- kind and number of a good row at row i, where so many levels are left
 unfoldable pub check : (levels : ℕ) → Spot → (row : ℕ) → (words text : List ℕ) → Answer (ℕ × ℕ)
@@ -19,6 +19,7 @@ check (suc l) c i (k ∷ []) x = refuse rowsAmiss (at i)
 check (suc l) c i (k ∷ n ∷ w) x = do
   need (isKind (styleOf k)) kindUnknown (at i)
   need (allowed c k) elementUnfit (at i)
+  need (naming (spotIn (styleOf k) n)) elementUnfit (at i)
   need (ranged (styleOf k) k n) numberOutside (at i)
   need (leb (letters (styleOf k) n) (length x)) textAmiss (at i)
   need (clean k (take (letters (styleOf k) n) x)) textAmiss (at i)

@@ -10,10 +10,10 @@ use Rattle.standard.specs.Bytes.{be}
 use Rattle.standard.specs.Choose.{if}
 use Rattle.standard.specs.Answer.{Answer, got, refuse, at}
 use Rattle.standard.specs.Tree.{Trees, tall*, text*}
-use Rattle.standard.specs.Kinds.{Style, foreign, numbered, blob, lettered, listed, mapped, arrayed, describing, styleOf, member, clean}
+use Rattle.standard.specs.Kinds.{Style, foreign, numbered, blob, lettered, listed, mapped, arrayed, describing, styleOf, member, clean, countIn, kindIn}
 use Rattle.standard.specs.Table.{most, Spot, ranged, letters, children, several, tree}
 use Rattle.standard.specs.Encode.{shortEnd, shortest}
-use Rattle.writer.specs.Heads.{Mode, values, elements, modeOf, headIn, written*}
+use Rattle.writer.specs.Heads.{Mode, values, elements, modeOf, arrayWidth, headIn, written*}
 use Rattle.writer.specs.Marks.{marks*}
 use Rattle.writer.specs.Rows.{check}
 use Rattle.writer.specs.Direct.{isLettered}
@@ -48,17 +48,6 @@ Finds w x l c n o b a r = (r ≡ totalFrom c o (valuesAt w x l c n o)) × Marked
 -- the bytes before the text of a row
 abbrev pub headSize : Mode → Style → (kind number body : ℕ) → ℕ
 headSize m s k n b = length (headIn m s (k % 256) n b)
-
--- the bytes of an array's element code
-unfoldable pub codeWidth : Style → (number : ℕ) → ℕ
-codeWidth foreign n = 0
-codeWidth (numbered s w) n = 0
-codeWidth (blob w) n = 0
-codeWidth (lettered s) n = 0
-codeWidth (listed e s) n = 0
-codeWidth (mapped s) n = 0
-codeWidth (arrayed s) n = if (eqb n 0) 0 1
-codeWidth describing n = 0
 
 -- What a row is, as far as sizing goes on without further checks
 
@@ -103,7 +92,7 @@ lettersSize s k n x = if (isLettered s) (textSize k n x) 0
 
 -- by whether it is open, the bytes that it takes as a number or as letters, and whether it is an array
 abbrev pub chosen : (opened : Bool) → (number letters : ℕ) → (array : Bool) → (kind count : ℕ) → Taken
-chosen o z y a k n = if o (Open k n) (if (ltb 0 z) (Number z) (if (ltb 0 y) (Letters n y) (if a (Array n) Other)))
+chosen o z y a k n = if o (Open k n) (if (ltb 0 z) (Number z) (if (ltb 0 y) (Letters n y) (if a (Array (kindIn n) (countIn n)) Other)))
 
 -- the row in front of words, with its text in front of x, where so many levels are left
 unfoldable pub takenOf : (levels : ℕ) → (words text : List ℕ) → Taken
@@ -146,13 +135,10 @@ passed o (refuse x (at p)) = Refused (record { number = x; place = p })
 abbrev pub inside : Extent → (kind : ℕ) → Extent
 inside o k = record { row = o .row + 1; text = o .text; size = 0; mark = o .mark + if (eqb k 0) 0 3 }
 
--- the bytes before and in the body of a row whose children take so many
-abbrev pub openHead : Mode → (kind body : ℕ) → ℕ
-openHead values k b = if (eqb k 0) 1 (if (ltb b shortEnd) 3 9)
-openHead elements k b = 8
-
-abbrev pub bodySize : (kind children : ℕ) → ℕ
-bodySize k z = if (eqb k 0xf0) (1 + z) z
+-- the bytes before the children of a row, which take so many
+abbrev pub openHead : Mode → (kind children : ℕ) → ℕ
+openHead values k b = if (eqb k 0) 1 (if (eqb k 0xf0) (arrayWidth b) (if (ltb b shortEnd) 3 9))
+openHead elements k b = if (eqb k 0xf0) 9 8
 
 -- behind its last child, which is before e
 abbrev pub closed : Extent → (head body : ℕ) → Extent → Extent

@@ -1,21 +1,20 @@
 // Writing the rows of a table that sizing has accepted, one after another, by the marks of its compounds.
 ghost use mathlib.Core.Path.{_≡_};
 ghost use Prim.Native.Nat.{ℕ, _+_, _*_, _%_, _^_, _≤_, _<_};
-ghost use mathlib.Core.List.{[], _∷_};
-ghost use mathlib.Core.Bool.{true, false, _&&_};
-ghost use lib.Dec.{eqb, ltb};
-ghost use lib.ListN.{length, take, drop, getD};
+ghost use mathlib.Core.Bool.{true, false};
+ghost use lib.Dec.{eqb};
+ghost use lib.ListN.{length, take, drop};
 ghost use lib.Seq.{sets};
 ghost use Rattle.standard.specs.Choose.{if};
 ghost use Rattle.standard.specs.Bytes.{unbe};
 ghost use Rattle.standard.specs.Kinds.{styleOf};
 ghost use Rattle.standard.specs.InCode.{styleIs};
-ghost use Rattle.standard.specs.Tree.{Tree, Trees, none, more, count};
+ghost use Rattle.standard.specs.Tree.{Tree, Trees, none};
 ghost use Rattle.standard.specs.Encode.{encode};
-ghost use Rattle.writer.specs.Heads.{enclosure, headIs, values, elements, modeIs};
+ghost use Rattle.writer.specs.Heads.{enclosure, arrayFields, headIs, values, elements, modeIs};
 ghost use Rattle.writer.specs.Marks.{markWidth};
-ghost use Rattle.writer.specs.Direct.{compoundHead, Put};
-ghost use Rattle.writer.specs.Filling.{fresh, behind, coded, kindAt, numberAt, markAt, isBoxed, Ready, Stepped, Filled, One, Done, Elements, Rows, Fillable};
+ghost use Rattle.writer.specs.Direct.{isArrayed, isListOrMap, compoundHead, Put};
+ghost use Rattle.writer.specs.Filling.{fresh, behind, kindAt, markAt, Ready, Stepped, Filled, One, Done, Elements, Rows, Fillable};
 use crate::head;
 use crate::head::Head;
 use crate::put;
@@ -45,19 +44,6 @@ impl Cursor {
         }
     }
 
-    // Behind a code.
-    fn past_code(self) -> Self
-        requires { ⌜ self .at + 1 < 2 ^ 64 ⌝ }
-        ensures { λ r. ⌜ r ≡ coded self ⌝ }
-    {
-        Self {
-            row: self.row,
-            text: self.text,
-            at: self.at + 1,
-            mark: self.mark,
-        }
-    }
-
     // Behind a row of so many bytes, so many of them text, with a mark of that width.
     fn behind(self, size: usize, letters: usize, width: usize) -> Self
         requires { ⌜ (self .row + 1 < 2 ^ 64) × (self .text + letters < 2 ^ 64) × (self .at + size < 2 ^ 64) × (self .mark + width < 2 ^ 64) ⌝ }
@@ -76,17 +62,14 @@ impl Cursor {
 pub(crate) fn mark_width(style: Style, number: u64) -> usize
     ensures { λ r. ⌜ r ≡ markWidth (styleIs style) number ⌝ }
 {
-    if number == 0 {
-        return 0;
-    }
     match style {
         Style::Foreign => 0,
         Style::Numbered(_, _) => 0,
         Style::Blob(_) => 0,
         Style::Lettered(_) => 0,
-        Style::Listed(_, _) => head::MARK_WIDTH,
-        Style::Mapped(_) => head::MARK_WIDTH,
-        Style::Arrayed(_) => head::MARK_WIDTH,
+        Style::Listed(_, _) => count_mark(number),
+        Style::Mapped(_) => count_mark(number),
+        Style::Arrayed(_) => count_mark(number % kind::KIND_UNIT),
         Style::Describing => 0,
     }
 }
@@ -130,9 +113,9 @@ fn put_head(out: &mut [u8], at: usize, h: Head)
     put::put_be(out, at + 1 + h.width, h.count_width, h.count);
 }
 
-// A row that is a value of its own, of any style: its head and its text.
+// A row that is a value of its own, of any style but an array's: its head and its text.
 fn put_styled(words: &[u64], text: &[u8], out: &mut [u8], c: Cursor) -> Cursor
-    requires { ⌜ Ready values (now words) (now text) (now out) c ⌝ }
+    requires { ⌜ Ready values (now words) (now text) (now out) c × (isArrayed (styleOf (kindAt (now words) c)) ≡ false) ⌝ }
     ensures { λ r. ⌜ Stepped values (now (words .entry)) (now (text .entry)) (now (out .entry)) c (now (out .exit)) r ⌝ }
 {
     let k = 2 * c.row;
@@ -149,16 +132,24 @@ fn put_styled(words: &[u64], text: &[u8], out: &mut [u8], c: Cursor) -> Cursor
     c.behind(size + letters, letters, width)
 }
 
-// What stands before a body whose size is in a mark.
-fn put_enclosure(out: &mut [u8], at: usize, short: u8, code: u8, count: u64, mark: usize) -> usize
-    requires { ⌜ (mark + 3 ≤ length (now out)) × (at + length (enclosure short code count (unbe (take 3 (drop mark (now out))))) ≤ length (now out)) ⌝ }
-    ensures { λ r. ⌜ Put (enclosure short code count (unbe (take 3 (drop mark (now (out .entry)))))) (now (out .entry)) at (now (out .exit)) r ⌝ }
+// What stands before a body of so many bytes.
+fn put_enclosure(out: &mut [u8], at: usize, short: u8, code: u8, count: u64, body: u64) -> usize
+    requires { ⌜ (body + 4 < 2 ^ 64) × (at + length (enclosure short code count body) ≤ length (now out)) ⌝ }
+    ensures { λ r. ⌜ Put (enclosure short code count body) (now (out .entry)) at (now (out .exit)) r ⌝ }
 {
-    let body = mark_at(out, mark, head::MARK_WIDTH) as u64;
     if body < head::SHORT_END {
         return put::put_sized(out, at, short, Compound8::COUNT_WIDTH, body, count);
     }
     put::put_sized(out, at, code, Compound32::COUNT_WIDTH, body, count)
+}
+
+// The same of a body whose size is in a mark.
+fn put_marked(out: &mut [u8], at: usize, short: u8, code: u8, count: u64, mark: usize) -> usize
+    requires { ⌜ (mark + 3 ≤ length (now out)) × (at + length (enclosure short code count (unbe (take 3 (drop mark (now out))))) ≤ length (now out)) ⌝ }
+    ensures { λ r. ⌜ Put (enclosure short code count (unbe (take 3 (drop mark (now (out .entry)))))) (now (out .entry)) at (now (out .exit)) r ⌝ }
+{
+    let body = mark_at(out, mark, head::MARK_WIDTH) as u64;
+    put_enclosure(out, at, short, code, count, body)
 }
 
 // The head of a list or a map that is not empty; nothing for other rows.
@@ -171,7 +162,7 @@ fn put_compound(out: &mut [u8], at: usize, kind: u64, count: u64, mark: usize) -
         return 0;
     }
     match kind {
-        0xd0 => put_enclosure(
+        0xd0 => put_marked(
             out,
             at,
             format_code::LIST_8,
@@ -179,7 +170,7 @@ fn put_compound(out: &mut [u8], at: usize, kind: u64, count: u64, mark: usize) -
             count,
             mark,
         ),
-        0xd1 => put_enclosure(
+        0xd1 => put_marked(
             out,
             at,
             format_code::MAP_8,
@@ -191,10 +182,10 @@ fn put_compound(out: &mut [u8], at: usize, kind: u64, count: u64, mark: usize) -
     }
 }
 
-// A row that is a value of its own, but no array with elements. Numbers, letters, lists and maps that are not empty, and described values go by
+// A row that is a value of its own, but no array. Numbers, letters, lists and maps that are not empty, and described values go by
 // their kind at once, which is faster than by a style: they are most rows.
 fn put_value(words: &[u64], text: &[u8], out: &mut [u8], c: Cursor) -> Cursor
-    requires { ⌜ Ready values (now words) (now text) (now out) c ⌝ }
+    requires { ⌜ Ready values (now words) (now text) (now out) c × (isArrayed (styleOf (kindAt (now words) c)) ≡ false) ⌝ }
     ensures { λ r. ⌜ Stepped values (now (words .entry)) (now (text .entry)) (now (out .entry)) c (now (out .exit)) r ⌝ }
 {
     let k = 2 * c.row;
@@ -222,7 +213,7 @@ fn put_value(words: &[u64], text: &[u8], out: &mut [u8], c: Cursor) -> Cursor
 
 // A row that is an element and no list, map or array: its number in full width, and its text.
 fn put_item(words: &[u64], text: &[u8], out: &mut [u8], c: Cursor) -> Cursor
-    requires { ⌜ Ready elements (now words) (now text) (now out) c × (isBoxed (styleOf (kindAt (now words) c)) ≡ false) ⌝ }
+    requires { ⌜ Ready elements (now words) (now text) (now out) c × (isListOrMap (styleOf (kindAt (now words) c)) ≡ false) × (isArrayed (styleOf (kindAt (now words) c)) ≡ false) ⌝ }
     ensures { λ r. ⌜ Stepped elements (now (words .entry)) (now (text .entry)) (now (out .entry)) c (now (out .exit)) r ⌝ }
 {
     let k = 2 * c.row;
@@ -236,10 +227,10 @@ fn put_item(words: &[u64], text: &[u8], out: &mut [u8], c: Cursor) -> Cursor
     c.behind(width + letters, letters, 0)
 }
 
-// A row that is an element and a list, a map or an array with a body of so many bytes: its size and its count. It has no text of its own:
+// A row that is an element and a list or a map with a body of so many bytes: its size and its count. It has no text of its own:
 // `text` is there for the promise alone.
 fn put_nested(words: &[u64], text: &[u8], out: &mut [u8], body: usize, c: Cursor) -> Cursor
-    requires { ⌜ Ready elements (now words) (now text) (now out) c × (isBoxed (styleOf (kindAt (now words) c)) ≡ true)
+    requires { ⌜ Ready elements (now words) (now text) (now out) c × (isListOrMap (styleOf (kindAt (now words) c)) ≡ true)
         × (body ≡ unbe (take (markAt (now words) c) (drop (c .mark) (now out)))) × (body < 2 ^ 24) ⌝ }
     ensures { λ r. ⌜ Stepped elements (now (words .entry)) (now (text .entry)) (now (out .entry)) c (now (out .exit)) r ⌝ }
 {
@@ -248,50 +239,44 @@ fn put_nested(words: &[u64], text: &[u8], out: &mut [u8], body: usize, c: Cursor
     c.behind(head::ITEM_WIDTH, 0, count_mark(count))
 }
 
-// The bytes of the body of a list, a map or an array, by its mark.
-fn body_at(words: &[u64], out: &[u8], c: Cursor) -> usize
-    requires { ⌜ (2 * (c .row) + 2 ≤ length (now words)) × (c .mark + markAt (now words) c ≤ length (now out)) × (isBoxed (styleOf (kindAt (now words) c)) ≡ true) ⌝ }
-    ensures { λ r. ⌜ (r ≡ unbe (take (markAt (now (words .entry)) c) (drop (c .mark) (now (out .entry))))) × (r < 2 ^ 24) ⌝ }
+// What stands before the code of an array's elements, with a body of so many bytes. The array is a value or an element itself.
+fn put_array_fields(out: &mut [u8], at: usize, nested: bool, count: u64, body: u64) -> usize
+    requires { ⌜ (body + 4 < 2 ^ 64) × (at + length (arrayFields (modeIs nested) count body) ≤ length (now out)) ⌝ }
+    ensures { λ r. ⌜ Put (arrayFields (modeIs nested) count body) (now (out .entry)) at (now (out .exit)) r ⌝ }
 {
-    mark_at(out, c.mark, count_mark(words[2 * c.row + 1]))
+    if nested {
+        put::put_fields(out, at, body, count);
+        return head::ITEM_WIDTH;
+    }
+    put_enclosure(
+        out,
+        at,
+        format_code::ARRAY_8,
+        format_code::ARRAY_32,
+        count,
+        body,
+    )
 }
 
-// The head of an array that has elements, with a body of so many bytes. It is a value or an element itself.
+// The head of an array whose elements take so many bytes: it ends in their code.
 fn put_array(
     words: &[u64],
     text: &[u8],
     out: &mut [u8],
     nested: bool,
-    body: usize,
+    elements: usize,
     c: Cursor,
 ) -> Cursor
     requires { ⌜ Ready (modeIs nested) (now words) (now text) (now out) c × (kindAt (now words) c ≡ 0xf0)
-        × (0 < numberAt (now words) c) × (body ≡ unbe (take (markAt (now words) c) (drop (c .mark) (now out)))) × (body < 2 ^ 24) ⌝ }
+        × (elements ≡ unbe (take (markAt (now words) c) (drop (c .mark) (now out)))) × (elements < 2 ^ 24) ⌝ }
     ensures { λ r. ⌜ Stepped (modeIs nested) (now (words .entry)) (now (text .entry)) (now (out .entry)) c (now (out .exit)) r ⌝ }
 {
-    if nested {
-        return put_nested(words, text, out, body, c);
-    }
-    let count = words[2 * c.row + 1];
-    let size = put_enclosure(
-        out,
-        c.at,
-        format_code::ARRAY_8,
-        format_code::ARRAY_32,
-        count,
-        c.mark,
-    );
-    c.behind(size, 0, head::MARK_WIDTH)
-}
-
-// The code of an array's elements, which is the kind of the first.
-fn put_code(words: &[u64], out: &mut [u8], c: Cursor) -> Cursor
-    requires { ⌜ (2 * (c .row) < length (now words)) × (c .at < length (now out)) ⌝ }
-    ensures { λ r. ⌜ (r ≡ coded c) × (now (out .exit) ≡ sets (now (out .entry)) (c .at) ((kindAt (now (words .entry)) c % 256) ∷ [])) ⌝ }
-{
+    let number = words[2 * c.row + 1];
+    let count = number % kind::KIND_UNIT;
     let at = c.at;
-    out[at] = (words[2 * c.row] % 256) as u8;
-    c.past_code()
+    let size = put_array_fields(out, at, nested, count, 1 + elements as u64);
+    out[at + size] = (number / kind::KIND_UNIT % 256) as u8;
+    c.behind(size + 1, 0, count_mark(count))
 }
 
 // The elements up to `end`, none of them a list, a map or an array.
@@ -306,38 +291,34 @@ fn fill_plain(words: &[u64], text: &[u8], out: &mut [u8], end: usize, start: Cur
     c
 }
 
-// The elements of an array up to `end`, behind their code.
-fn fill_items(words: &[u64], text: &[u8], out: &mut [u8], end: usize, c: Cursor) -> Cursor
-    requires { ⌜ ((k : ℕ) × (vs : Trees) × (0 < count vs) × Elements (now words) (now text) (now out) end c k vs) ⌝ }
-    ensures { λ r. ⌜ ((k : ℕ) (vs : Trees) → Elements (now (words .entry)) (now (text .entry)) (now (out .entry)) end c k vs → 0 < count vs → Filled (now (out .entry)) c none vs (now (out .exit)) r) ⌝ }
+// The elements up to `end` of an array that tells that kind.
+fn fill_items(
+    words: &[u64],
+    text: &[u8],
+    out: &mut [u8],
+    told: u64,
+    end: usize,
+    c: Cursor,
+) -> Cursor
+    requires { ⌜ ((vs : Trees) × Elements (now words) (now text) (now out) end c told vs) ⌝ }
+    ensures { λ r. ⌜ ((vs : Trees) → Elements (now (words .entry)) (now (text .entry)) (now (out .entry)) end c told vs → Filled (now (out .entry)) c none vs (now (out .exit)) r) ⌝ }
 {
-    if words[2 * c.row] < 0xd0 {
+    if told < 0xd0 {
         return fill_plain(words, text, out, end, c);
     }
     fill_rows(words, text, out, end, c.at, c)
 }
 
-// Is the row an array that has elements.
-fn is_array(words: &[u64], row: usize) -> bool
-    requires { ⌜ 2 * row + 2 ≤ length (now words) ⌝ }
-    ensures { λ r. ⌜ r ≡ eqb (getD (now (words .entry)) (2 * row) 0) 0xf0 && ltb 0 (getD (now (words .entry)) (2 * row + 1) 0) ⌝ }
-{
-    if words[2 * row] == 0xf0 {
-        return 0 < words[2 * row + 1];
-    }
-    false
-}
-
-// An array with elements, which is a value or an element itself: its head, the code of its elements, and these.
+// An array, which is a value or an element itself: its head, and its elements.
 fn fill_array(words: &[u64], text: &[u8], out: &mut [u8], nested: bool, c: Cursor) -> Cursor
-    requires { ⌜ (kindAt (now words) c ≡ 0xf0) × (0 < numberAt (now words) c) × ((k : ℕ) × (v : Tree) × One (now words) (now text) (now out) (modeIs nested) c k v) ⌝ }
+    requires { ⌜ (kindAt (now words) c ≡ 0xf0) × ((k : ℕ) × (v : Tree) × One (now words) (now text) (now out) (modeIs nested) c k v) ⌝ }
     ensures { λ r. ⌜ ((k : ℕ) (v : Tree) → One (now (words .entry)) (now (text .entry)) (now (out .entry)) (modeIs nested) c k v → Done (now (out .entry)) (modeIs nested) c v (now (out .exit)) r) ⌝ }
 {
-    let body = body_at(words, out, c);
-    let head = put_array(words, text, out, nested, body, c);
-    let end = head.at + body;
-    let inner = put_code(words, out, head);
-    fill_items(words, text, out, end, inner)
+    let number = words[2 * c.row + 1];
+    let elements = mark_at(out, c.mark, count_mark(number % kind::KIND_UNIT));
+    let first = put_array(words, text, out, nested, elements, c);
+    let end = first.at + elements;
+    fill_items(words, text, out, number / kind::KIND_UNIT, end, first)
 }
 
 // The rows up to `end`: values up to `first`, and behind them elements, each a list, a map or an array.
@@ -356,10 +337,10 @@ fn fill_rows(
     let mut last = first;
     while c.at < end {
         let nested = last <= c.at;
-        if is_array(words, c.row) {
+        if words[2 * c.row] == 0xf0 {
             c = fill_array(words, text, out, nested, c);
         } else if nested {
-            let body = body_at(words, out, c);
+            let body = mark_at(out, c.mark, count_mark(words[2 * c.row + 1]));
             c = put_nested(words, text, out, body, c);
             last = c.at + body;
         } else {

@@ -1,6 +1,7 @@
 // What stands before a row's text: the format code, and its number or its size and count (docs/FORMAT.md, 3).
 ghost use mathlib.Core.Path.{_≡_};
 ghost use mathlib.Core.List.{[], _∷_};
+ghost use mathlib.Core.Bool.{false};
 ghost use Prim.Native.Nat.{ℕ, _+_, _%_, _<_, _^_};
 ghost use lib.ListN.{length};
 ghost use lib.Dec.{eqb, ltb};
@@ -9,7 +10,8 @@ ghost use Rattle.standard.specs.Bytes.{be};
 ghost use Rattle.standard.specs.Kinds.{styleOf};
 ghost use Rattle.standard.specs.Encode.{shortest, shortEnd};
 ghost use Rattle.standard.specs.InCode.{styleIs, shortIs};
-ghost use Rattle.writer.specs.Heads.{enclosure, head, itemWidth, headIs};
+ghost use Rattle.writer.specs.Heads.{enclosure, head, arrayWidth, itemWidth, headIs};
+ghost use Rattle.writer.specs.Direct.{isArrayed};
 use standard::format_code::Compound8;
 use standard::format_code::Compound32;
 use standard::kind;
@@ -99,7 +101,7 @@ fn write_text(short: u8, code: u8, number: u64) -> Head
     Head::one(code, 4, number)
 }
 
-// Size and count of a map, an array or a list that is not empty.
+// Size and count of a map, or of a list that is not empty.
 fn write_compound(short: u8, code: u8, count: u64, body: usize) -> Head
     requires { ⌜ body + 4 < 2 ^ 64 ⌝ }
     ensures { λ r. ⌜ headIs r ≡ enclosure short code count body ⌝ }
@@ -132,9 +134,9 @@ fn write_list(empty: u8, short: u8, code: u8, count: u64, body: usize) -> Head
     write_compound(short, code, count, body)
 }
 
-// What stands before the text of a value whose body has so many bytes.
+// What stands before the text of a value whose children take so many bytes. It is no array: that has a code more, for its elements.
 pub(crate) fn head_of(style: Style, kind: u64, number: u64, body: usize) -> Head
-    requires { ⌜ body + 4 < 2 ^ 64 ⌝ }
+    requires { ⌜ (body + 4 < 2 ^ 64) × (isArrayed (styleIs style) ≡ false) ⌝ }
     ensures { λ r. ⌜ headIs r ≡ head (styleIs style) (kind % 256) number body ⌝ }
 {
     let code = (kind % 256) as u8;
@@ -145,7 +147,7 @@ pub(crate) fn head_of(style: Style, kind: u64, number: u64, body: usize) -> Head
         Style::Lettered(short) => write_text(short, code, number),
         Style::Listed(empty, short) => write_list(empty, short, code, number, body),
         Style::Mapped(short) => write_compound(short, code, number, body),
-        Style::Arrayed(short) => write_compound(short, code, number, body),
+        Style::Arrayed(_) => Head::bare(code),
         Style::Describing => Head::bare(code),
     }
 }
@@ -184,10 +186,18 @@ pub(crate) fn compound_width(body: usize) -> usize
     1 + 2 * Compound32::COUNT_WIDTH
 }
 
-// How many bytes stand before the text of a value whose body has so many bytes.
-pub(crate) fn head_width(style: Style, kind: u64, number: u64, body: usize) -> usize
+// Code, size and count of an array before elements of so many bytes, and the code of these.
+pub(crate) fn array_width(elements: usize) -> usize
+    requires { ⌜ elements + 1 < 2 ^ 64 ⌝ }
+    ensures { λ r. ⌜ r ≡ arrayWidth elements ⌝ }
+{
+    1 + compound_width(1 + elements)
+}
+
+// How many bytes stand before the text of a value without children.
+pub(crate) fn head_width(style: Style, kind: u64, number: u64) -> usize
     requires { ⌜ styleIs style ≡ styleOf kind ⌝ }
-    ensures { λ r. ⌜ r ≡ length (head (styleIs style) (kind % 256) number body) ⌝ }
+    ensures { λ r. ⌜ r ≡ length (head (styleIs style) (kind % 256) number 0) ⌝ }
 {
     match style {
         Style::Foreign => 1,
@@ -203,16 +213,19 @@ pub(crate) fn head_width(style: Style, kind: u64, number: u64, body: usize) -> u
             if number == 0 {
                 return 1;
             }
-            compound_width(body)
+            compound_width(0)
         }
-        Style::Mapped(_) => compound_width(body),
-        Style::Arrayed(_) => compound_width(body),
+        Style::Mapped(_) => compound_width(0),
+        Style::Arrayed(_) => array_width(0),
         Style::Describing => 1,
     }
 }
 
 // Size and count of a list, a map or an array that is an element.
 pub(crate) const ITEM_WIDTH: usize = 8;
+
+// And of an array with the code of its elements.
+pub(crate) const ITEM_ARRAY_WIDTH: usize = 9;
 
 // How many bytes stand before the text of an element of an array, which has no code of its own and no short form.
 pub(crate) fn item_width(style: Style) -> usize
@@ -225,7 +238,7 @@ pub(crate) fn item_width(style: Style) -> usize
         Style::Lettered(_) => 4,
         Style::Listed(_, _) => ITEM_WIDTH,
         Style::Mapped(_) => ITEM_WIDTH,
-        Style::Arrayed(_) => ITEM_WIDTH,
+        Style::Arrayed(_) => ITEM_ARRAY_WIDTH,
         Style::Describing => 0,
     }
 }

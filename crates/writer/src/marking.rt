@@ -1,8 +1,8 @@
 // Marking: the sizes of all compounds of a table that sizing has accepted, without checks.
 //
 // One pass over the rows. A list, a map or an array that is not empty goes onto a stack as three numbers: the bytes before it, the place
-// of its mark, and how many rows are due behind it and what they are. When its last child is taken, the bytes since are the size of its
-// body. The values below a described one are due in its place, so it needs no stack.
+// of its mark, and how many rows are due behind it and what they are. When its last child is taken, the bytes since are those of its
+// children. The values below a described one are due in its place, so it needs no stack.
 ghost use mathlib.Core.Path.{_≡_};
 ghost use mathlib.Core.List.{[], _∷_};
 ghost use Prim.Native.Nat.{ℕ, _+_, _-_, _*_, _%_, _^_, _≤_, _<_};
@@ -74,7 +74,7 @@ fn is_boxed(kind: u64, number: u64) -> bool
     match kind {
         0xd0 => 0 < number,
         0xd1 => 0 < number,
-        0xf0 => 0 < number,
+        0xf0 => 0 < number % kind::KIND_UNIT,
         _ => false,
     }
 }
@@ -128,33 +128,34 @@ fn number_width(kind: u64, number: u64) -> usize
     }
 }
 
-// The bytes before a compound's body.
-fn box_width(elements: bool, body: usize) -> usize
-    ensures { λ r. ⌜ r ≡ boxWidth (modeIs elements) body ⌝ }
+// The bytes before the children of a compound, by theirs. Before the elements of an array stands their code, which its size counts.
+fn box_width(elements: bool, array: bool, children: usize) -> usize
+    requires { ⌜ children + 1 < 2 ^ 64 ⌝ }
+    ensures { λ r. ⌜ r ≡ boxWidth (modeIs elements) array children ⌝ }
 {
+    let code = array as usize;
     if elements {
-        return head::ITEM_WIDTH;
+        return code + head::ITEM_WIDTH;
     }
-    head::compound_width(body)
+    code + head::compound_width(code + children)
 }
 
 // A list, a map or an array begins. The rows due behind it and what they are go onto the stack as one number: twice as many, and 1 more
-// for elements. The code of an array's elements is the first byte of its body.
-fn open(stack: &mut [usize; STACK], c: Point, kind: u64, number: usize) -> Point
-    requires { ⌜ (c .top + 3 ≤ 3 * levelMost) × (0 < c .left) × (c .left < 2 ^ 62) × (c .row + 1 < 2 ^ 64) × (c .size + 1 < 2 ^ 64) × (c .mark + 3 < 2 ^ 64) ⌝ }
-    ensures { λ r. ⌜ (r ≡ entered c kind number) × (now (stack .exit) ≡ sets (now (stack .entry)) (c .top) (c .size ∷ c .mark ∷ due (c .left - 1) (c .elements) ∷ [])) ⌝ }
+// for elements.
+fn open(stack: &mut [usize; STACK], c: Point, kind: u64, count: usize) -> Point
+    requires { ⌜ (c .top + 3 ≤ 3 * levelMost) × (0 < c .left) × (c .left < 2 ^ 62) × (c .row + 1 < 2 ^ 64) × (c .mark + 3 < 2 ^ 64) ⌝ }
+    ensures { λ r. ⌜ (r ≡ entered c kind count) × (now (stack .exit) ≡ sets (now (stack .entry)) (c .top) (c .size ∷ c .mark ∷ due (c .left - 1) (c .elements) ∷ [])) ⌝ }
 {
     let top = c.top;
     stack[top] = c.size;
     stack[top + 1] = c.mark;
     stack[top + 2] = 2 * (c.left - 1) + c.elements as usize;
-    let elements = kind == 0xf0;
     Point {
         row: c.row + 1,
-        size: c.size + elements as usize,
+        size: c.size,
         mark: c.mark + 3,
-        left: number,
-        elements,
+        left: count,
+        elements: kind == 0xf0,
         top: top + 3,
     }
 }
@@ -166,13 +167,13 @@ fn close(stack: &[usize; STACK], out: &mut [u8], c: Point) -> Point
         × (now (out .exit) ≡ sets (now (out .entry)) (placeOn (now (stack .entry)) (c .top)) (be 3 (c .size - startOn (now (stack .entry)) (c .top)))) ⌝ }
 {
     let top = c.top - 3;
-    let body = c.size - stack[top];
-    put::put_three(out, stack[top + 1], body as u64);
+    let children = c.size - stack[top];
+    put::put_three(out, stack[top + 1], children as u64);
     let left = stack[top + 2];
     let elements = left % 2 == 1;
     Point {
         row: c.row,
-        size: c.size + box_width(elements, body),
+        size: c.size + box_width(elements, c.elements, children),
         mark: c.mark,
         left: left / 2,
         elements,
@@ -190,7 +191,7 @@ fn take_row(words: &[u64], stack: &mut [usize; STACK], c: Point) -> Point
     let kind = words[k];
     let number = words[k + 1];
     if is_boxed(kind, number) {
-        return open(stack, c, kind, number as usize);
+        return open(stack, c, kind, (number % kind::KIND_UNIT) as usize);
     }
     if c.elements {
         return c.past(item_size(kind, number), 0);
@@ -204,7 +205,7 @@ fn take_row(words: &[u64], stack: &mut [usize; STACK], c: Point) -> Point
     }
     let style = kind::style_of(kind);
     let letters = style.letters(number) as usize;
-    c.past(head::head_width(style, kind, number, 0) + letters, 0)
+    c.past(head::head_width(style, kind, number) + letters, 0)
 }
 
 // The bytes of an element without children.

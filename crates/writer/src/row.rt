@@ -2,8 +2,9 @@
 ghost use mathlib.Core.Path.{_≡_};
 ghost use Prim.Native.Nat.{_*_, _≤_};
 ghost use lib.ListN.{length, drop};
-ghost use Rattle.standard.specs.Kinds.{styleOf};
-ghost use Rattle.standard.specs.Table.{allowed};
+ghost use Rattle.standard.specs.Answer.{elementUnfit, numberOutside};
+ghost use Rattle.standard.specs.Choose.{if};
+ghost use Rattle.standard.specs.Table.{allowed, naming, spotIn};
 ghost use Rattle.standard.specs.InCode.{styleIs};
 ghost use Rattle.writer.specs.Rows.{check};
 ghost use Rattle.writer.specs.InCode.{spotIs, checkedIs, Styled};
@@ -11,11 +12,10 @@ use standard::kind;
 use standard::kind::Style;
 use standard::refusal;
 
-// Where a row stands: in no array, first in one, or behind elements of a kind.
+// Where a row stands: in no array, or in one that tells that kind of its elements.
 pub enum IsArrayElement {
     False,
-    FirstElement,
-    OtherElement(u64),
+    OfKind(u64),
 }
 
 // A good row, or the number of its refusal.
@@ -24,14 +24,38 @@ pub enum Checked {
     Bad(usize),
 }
 
-fn is_allowed(spot: IsArrayElement, kind: u64, style: Style) -> bool
-    requires { ⌜ styleIs style ≡ styleOf kind ⌝ }
+fn is_allowed(spot: IsArrayElement, kind: u64) -> bool
     ensures { λ r. ⌜ r ≡ allowed (spotIs spot) kind ⌝ }
 {
     match spot {
         IsArrayElement::False => true,
-        IsArrayElement::FirstElement => style.is_member(),
-        IsArrayElement::OtherElement(first) => kind == first,
+        IsArrayElement::OfKind(told) => kind == told,
+    }
+}
+
+// The refusal of a number that is not in range: an array that tells a kind which arrays cannot hold is refused for that.
+fn outside(style: Style, number: u64) -> usize
+    ensures { λ r. ⌜ r ≡ if (naming (spotIn (styleIs style) number)) numberOutside elementUnfit ⌝ }
+{
+    if is_naming(style, number) {
+        return refusal::NUMBER_OUTSIDE;
+    }
+    refusal::ELEMENT_UNFIT
+}
+
+// May a row say what its children are: an array may not tell a kind that arrays cannot hold.
+fn is_naming(style: Style, number: u64) -> bool
+    ensures { λ r. ⌜ r ≡ naming (spotIn (styleIs style) number) ⌝ }
+{
+    match style {
+        Style::Foreign => true,
+        Style::Numbered(_, _) => true,
+        Style::Blob(_) => true,
+        Style::Lettered(_) => true,
+        Style::Listed(_, _) => true,
+        Style::Mapped(_) => true,
+        Style::Arrayed(_) => kind::is_nameable(number / kind::KIND_UNIT),
+        Style::Describing => true,
     }
 }
 
@@ -60,11 +84,11 @@ pub(crate) fn check_row(
     if levels == 0 {
         return Checked::Bad(refusal::TOO_DEEP);
     }
-    if !is_allowed(spot, kind, style) {
+    if !is_allowed(spot, kind) {
         return Checked::Bad(refusal::ELEMENT_UNFIT);
     }
     if !style.takes(kind, number) {
-        return Checked::Bad(refusal::NUMBER_OUTSIDE);
+        return Checked::Bad(outside(style, number));
     }
     let count = style.letters(number) as usize;
     if letters.len() - from < count {

@@ -1,21 +1,19 @@
 // Sizing: the checks of all rows and the bytes that they will be written to (docs/FORMAT.md, 6.1).
 ghost use mathlib.Core.Path.{_≡_};
-ghost use mathlib.Core.Bool.{_&&_};
 ghost use Prim.Native.Nat.{_+_, _*_, _-_, _^_, _≤_, _<_};
-ghost use lib.Dec.{eqb};
+ghost use lib.Dec.{T, eqb};
 ghost use lib.ListN.{length, drop, getD};
 ghost use lib.Seq.{sets};
 ghost use Rattle.standard.specs.Choose.{if};
 ghost use Rattle.standard.specs.Bytes.{be};
 ghost use Rattle.standard.specs.Kinds.{styleOf, member};
 ghost use Rattle.standard.specs.Answer.{got};
-ghost use Rattle.standard.specs.Table.{any, first, next, allowed};
+ghost use Rattle.standard.specs.Table.{any, like};
 ghost use Rattle.standard.specs.InCode.{styleIs};
-ghost use Rattle.writer.specs.Heads.{values};
-ghost use Rattle.writer.specs.InCode.{spotIs};
+ghost use Rattle.writer.specs.Heads.{values, elements};
 ghost use Rattle.writer.specs.Direct.{isLettered};
 ghost use Rattle.writer.specs.Rows.{check};
-ghost use Rattle.writer.specs.Sizing.{opens, arrays, textSize, lettersSize, takenOf, other, Nested, Finds, Within, Small, begin, past, beyond, passed, inside, openHead, bodySize, closed, MarkPut};
+ghost use Rattle.writer.specs.Sizing.{opens, arrays, textSize, lettersSize, takenOf, other, Nested, Finds, Within, Small, begin, past, beyond, passed, inside, openHead, closed, MarkPut};
 use crate::head;
 use crate::number;
 use crate::put;
@@ -87,8 +85,8 @@ pub enum Taken {
     Letters(usize, usize),
     // A list, a map or a described value, by its kind, with so many children.
     Open(u64, usize),
-    // An array with so many elements.
-    Array(usize),
+    // An array with elements of that kind, so many of them.
+    Array(u64, usize),
     // Anything else: a row with 16 bytes of text, an empty compound, a bad row, or none.
     Other,
 }
@@ -113,16 +111,53 @@ fn is_open(kind: u64, number: u64) -> bool
     }
 }
 
+// May arrays hold a kind.
+fn is_element(kind: u64) -> bool
+    ensures { λ r. ⌜ r ≡ member (styleOf kind) ⌝ }
+{
+    match kind {
+        0x50 => true,
+        0x51 => true,
+        0x56 => true,
+        0x60 => true,
+        0x61 => true,
+        0x70 => true,
+        0x71 => true,
+        0x72 => true,
+        0x73 => true,
+        0x74 => true,
+        0x80 => true,
+        0x81 => true,
+        0x82 => true,
+        0x83 => true,
+        0x84 => true,
+        0x94 => true,
+        0x98 => true,
+        0xb0 => true,
+        0xb1 => true,
+        0xb3 => true,
+        0xd0 => true,
+        0xd1 => true,
+        0xf0 => true,
+        _ => false,
+    }
+}
+
 // Is a row an array that has elements.
 fn is_array(kind: u64, number: u64) -> bool
     ensures { λ r. ⌜ r ≡ arrays (styleOf kind) kind number ⌝ }
 {
-    if kind == 0xf0 {
-        if 0 < number {
-            return number <= kind::MOST;
-        }
+    let count = number % kind::KIND_UNIT;
+    if kind != 0xf0 {
+        return false;
     }
-    false
+    if count == 0 {
+        return false;
+    }
+    if kind::MOST < count {
+        return false;
+    }
+    is_element(number / kind::KIND_UNIT)
 }
 
 // The bytes of a text with its code and its length, where it is good; 0 where it is not.
@@ -198,27 +233,22 @@ fn take_row(words: &[u64], text: &[u8], row: usize, from: usize, levels: usize) 
         return Taken::Letters(number as usize, size);
     }
     if is_array(kind, number) {
-        return Taken::Array(number as usize);
+        return Taken::Array(
+            number / kind::KIND_UNIT,
+            (number % kind::KIND_UNIT) as usize,
+        );
     }
     Taken::Other
 }
 
-// Is a kind that arrays may hold allowed at a spot.
-fn is_like(spot: IsArrayElement, kind: u64) -> bool
-    ensures { λ r. ⌜ (member (styleOf kind) && r) ≡ (member (styleOf kind) && allowed (spotIs spot) kind) ⌝ }
-{
-    match spot {
-        IsArrayElement::False => true,
-        IsArrayElement::FirstElement => 0 < kind,
-        IsArrayElement::OtherElement(first) => kind == first,
-    }
-}
-
-// Is the element at `row` a good list, map or array with children. Scalars, most elements, are told by their kind at once.
-fn is_nested(words: &[u64], row: usize, levels: usize, spot: IsArrayElement) -> bool
+// Is the element at `row` a good list, map or array with children, in an array that tells that kind. Where it tells another, as most do, no row is looked at.
+fn is_nested(words: &[u64], row: usize, levels: usize, told: u64) -> bool
     requires { ⌜ 2 * row ≤ length (now words) ⌝ }
-    ensures { λ r. ⌜ Nested levels (spotIs spot) (drop (2 * row) (now (words .entry))) (getD (now (words .entry)) (2 * row) 0) (getD (now (words .entry)) (2 * row + 1) 0) r ⌝ }
+    ensures { λ r. ⌜ Nested levels (like told) (drop (2 * row) (now (words .entry))) (getD (now (words .entry)) (2 * row) 0) (getD (now (words .entry)) (2 * row + 1) 0) r ⌝ }
 {
+    if told < 0xd0 {
+        return false;
+    }
     let k = 2 * row;
     if levels == 0 {
         return false;
@@ -227,27 +257,13 @@ fn is_nested(words: &[u64], row: usize, levels: usize, spot: IsArrayElement) -> 
         return false;
     }
     let kind = words[k];
-    if kind < 0xd0 {
-        return false;
-    }
-    if !is_like(spot, kind) {
+    if kind != told {
         return false;
     }
     if is_array(kind, words[k + 1]) {
         return true;
     }
     is_open(kind, words[k + 1])
-}
-
-// The spot of the row behind another one.
-fn next_spot(spot: IsArrayElement, kind: u64) -> IsArrayElement
-    ensures { λ r. ⌜ spotIs r ≡ next (spotIs spot) kind ⌝ }
-{
-    match spot {
-        IsArrayElement::False => IsArrayElement::False,
-        IsArrayElement::FirstElement => IsArrayElement::OtherElement(kind),
-        IsArrayElement::OtherElement(first) => IsArrayElement::OtherElement(first),
-    }
 }
 
 // Stores a mark where there is room for it.
@@ -269,7 +285,7 @@ fn size_good(c: Extent, style: Style, kind: u64, number: u64) -> Sized
     ensures { λ r. ⌜ r ≡ passed c (got (kind, number)) ⌝ }
 {
     let letters = style.letters(number) as usize;
-    Sized::Fits(c.past(letters, head::head_width(style, kind, number, 0) + letters))
+    Sized::Fits(c.past(letters, head::head_width(style, kind, number) + letters))
 }
 
 // The row at `c`, whatever it is but one with children.
@@ -296,8 +312,9 @@ fn open_mark(kind: u64) -> usize
     head::MARK_WIDTH
 }
 
-// The bytes before the body of a list, a map or a described value.
+// The bytes before the children of a list, a map or a described value, by those of the children.
 fn open_head(kind: u64, body: usize) -> usize
+    requires { ⌜ (kind ≡ 0xf0 → ⊥) ⌝ }
     ensures { λ r. ⌜ r ≡ openHead values kind body ⌝ }
 {
     if kind == 0x00 {
@@ -306,18 +323,17 @@ fn open_head(kind: u64, body: usize) -> usize
     head::compound_width(body)
 }
 
-// The bytes of the body of a row with children: an array's elements stand behind their code.
-fn body_size(kind: u64, children: usize) -> usize
-    requires { ⌜ children + 1 < 2 ^ 64 ⌝ }
-    ensures { λ r. ⌜ r ≡ bodySize kind children ⌝ }
+// The bytes before the children of a list, a map or an array that is an element.
+fn nested_head(kind: u64) -> usize
+    ensures { λ r. ⌜ r ≡ openHead elements kind 0 ⌝ }
 {
     if kind == 0xf0 {
-        return 1 + children;
+        return head::ITEM_ARRAY_WIDTH;
     }
-    children
+    head::ITEM_WIDTH
 }
 
-// Behind a row of that kind, with a body of so many bytes behind a head of so many, whose children end before `e`.
+// Behind a row of that kind, with children of so many bytes behind a head of so many, which end before `e`.
 fn close(marks: &mut [u8], c: Extent, kind: u64, head: usize, body: usize, e: Extent) -> Extent
     requires { ⌜ (c .size + (head + body) < 2 ^ 64) × (c .mark + 3 < 2 ^ 64) ⌝ }
     ensures { λ r. ⌜ (r ≡ closed c head body e) × MarkPut (now (marks .entry)) (c .mark) kind body (now (marks .exit)) ⌝ }
@@ -353,68 +369,75 @@ fn size_children(
     size_values(words, text, count, levels - 1, marks, first)
 }
 
-// The same of the elements of an array.
+// The same of the elements of an array that tells that kind.
 fn size_elements(
     words: &[u64],
     text: &[u8],
+    told: u64,
     count: usize,
     levels: usize,
     marks: &mut [u8],
     c: Extent,
 ) -> Sized
-    requires { ⌜ Within (now words) (now text) (inside c 0xf0) × (0 < levels) × (0 < count) ⌝ }
-    ensures { λ r. ⌜ Finds (now (words .entry)) (now (text .entry)) (levels - 1) first count (inside c 0xf0) (now (marks .entry)) (now (marks .exit)) r ⌝ }
+    requires { ⌜ Within (now words) (now text) (inside c 0xf0) × (0 < levels) × (0 < count) × T (member (styleOf told)) ⌝ }
+    ensures { λ r. ⌜ Finds (now (words .entry)) (now (text .entry)) (levels - 1) (like told) count (inside c 0xf0) (now (marks .entry)) (now (marks .exit)) r ⌝ }
 {
     let first = c.inside(0xf0);
     if levels == 1 {
         let none = size_row(words, text, 0, first);
         return none;
     }
-    size_items(words, text, count, levels - 1, marks, first)
+    size_items(words, text, told, count, levels - 1, marks, first)
 }
 
-// So many elements of an array, the first of them at `start`, where so many levels are left.
+// So many elements of an array that tells that kind, the first of them at `start`, where so many levels are left.
 fn size_items(
     words: &[u64],
     text: &[u8],
+    told: u64,
     count: usize,
     levels: usize,
     marks: &mut [u8],
     start: Extent,
 ) -> Sized
-    requires { ⌜ Within (now words) (now text) start ⌝ }
-    ensures { λ r. ⌜ Finds (now (words .entry)) (now (text .entry)) levels first count start (now (marks .entry)) (now (marks .exit)) r ⌝ }
+    requires { ⌜ Within (now words) (now text) start × T (member (styleOf told)) ⌝ }
+    ensures { λ r. ⌜ Finds (now (words .entry)) (now (text .entry)) levels (like told) count start (now (marks .entry)) (now (marks .exit)) r ⌝ }
 {
     let mut c = start;
-    let mut spot = IsArrayElement::FirstElement;
     let mut left = count;
     while 0 < left {
         left -= 1;
-        if is_nested(words, c.row, levels, spot) {
-            let kind = words[2 * c.row];
-            let number = words[2 * c.row + 1] as usize;
-            let below = if kind == 0xf0 {
-                size_elements(words, text, number, levels, marks, c)
+        if is_nested(words, c.row, levels, told) {
+            let number = words[2 * c.row + 1];
+            let below = if told == 0xf0 {
+                let inner = number / kind::KIND_UNIT;
+                let elements = (number % kind::KIND_UNIT) as usize;
+                size_elements(words, text, inner, elements, levels, marks, c)
             } else {
-                size_children(words, text, kind, number, levels, marks, c)
+                size_children(words, text, told, number as usize, levels, marks, c)
             };
             let Sized::Fits(e) = below else {
                 return below;
             };
-            c = close(marks, c, kind, head::ITEM_WIDTH, body_size(kind, e.size), e);
-            spot = next_spot(spot, kind);
+            c = close(marks, c, told, nested_head(told), e.size, e);
         } else {
-            match row::check_row(words, text, c.row, c.text, levels, spot) {
+            match row::check_row(
+                words,
+                text,
+                c.row,
+                c.text,
+                levels,
+                IsArrayElement::OfKind(told),
+            ) {
                 Checked::Bad(number) => {
                     return Sized::Refused(Refusal {
                         number,
                         place: c.row,
                     });
                 }
-                Checked::Good(style, kind, number) => {
+                Checked::Good(style, _, number) => {
                     let letters = style.letters(number) as usize;
                     c = c.past(letters, head::item_width(style) + letters);
-                    spot = next_spot(spot, kind);
                 }
             }
         }
@@ -448,13 +471,12 @@ pub(crate) fn size_values(
                 };
                 c = close(marks, c, kind, open_head(kind, e.size), e.size, e);
             }
-            Taken::Array(elements) => {
-                let below = size_elements(words, text, elements, levels, marks, c);
+            Taken::Array(told, elements) => {
+                let below = size_elements(words, text, told, elements, levels, marks, c);
                 let Sized::Fits(e) = below else {
                     return below;
                 };
-                let body = 1 + e.size;
-                c = close(marks, c, 0xf0, head::compound_width(body), body, e);
+                c = close(marks, c, 0xf0, head::array_width(e.size), e.size, e);
             }
             Taken::Other => {
                 // a copy is lent, so that `c` stays in registers

@@ -27,7 +27,7 @@ fill-plain-spec =
     Inv-loop
     μ-loop
     (λ c. (refl, λ k vs e h. plain-due e h))
-    (λ c κs. let g = plain-turn (c .before .before .before .loop .inv .1 (c .before .before .before .before .before .before .before .pre .0) (c .before .before .before .before .before .before .before .pre .1) (c .before .before .before .before .before .before .before .pre .3) (c .before .before .before .before .before .before .before .pre .2)) (c .before .if1 .taken) in (g .0 .ready, g .0 .isBox))
+    (λ c κs. let g = plain-turn (c .before .before .before .loop .inv .1 (c .before .before .before .before .before .before .before .pre .0) (c .before .before .before .before .before .before .before .pre .1) (c .before .before .before .before .before .before .before .pre .3) (c .before .before .before .before .before .before .before .pre .2)) (c .before .if1 .taken) in (g .0 .ready, g .0 .isBox .0, g .0 .isBox .1))
     (λ c. let g = plain-turn (c .before .before .before .before .before .before .loop .inv .1 (c .before .before .before .before .before .before .before .before .before .before .pre .0) (c .before .before .before .before .before .before .before .before .before .before .pre .1) (c .before .before .before .before .before .before .before .before .before .before .pre .3) (c .before .before .before .before .before .before .before .before .before .before .pre .2)) (c .before .before .before .before .if1 .taken) in omega (arith, g .0 .ready .row, ap (λ z. z .row) (c .before .before .put-item .ensures .place)))
     (λ c. (c .before .before .put-item .kept .1 .1 .0 ∙ c .before .before .before .before .before .before .loop .inv .0, λ k vs e h. plain-turn (c .before .before .before .before .before .before .loop .inv .1 k vs e h) (c .before .before .before .before .if1 .taken) .1 _ _ (c .before .before .put-item .ensures)))
     (λ c. c .before .before .loop .inv .0)

@@ -18,7 +18,7 @@ here : (c : tie.After-head-of) →
 here c =
     let s = c .before .before .before .before .before .before .before .before .before .before .before .before in
     let h = c .head-of .result in
-    parts values (s .args .words .now) (s .args .text .now) (s .args .out .now) (s .args .c) (s .pre) (styleIs (c .before .before .before .before .before .style-of .result)) (c .before .before .before .before .before .style-of .ensures) (c .before .before .before .mark-width .result) (c .before .before .before .mark-width .ensures) (c .before .before .before .before .letters .result) (c .before .before .before .before .letters .ensures) (c .before .mark-at .result) (1 + h .width + h .«count_width») (headIs h) (c .before .mark-at .ensures .0) (c .head-of .ensures) (length-head h)
+    parts values (s .args .words .now) (s .args .text .now) (s .args .out .now) (s .args .c) (s .pre .0) (styleIs (c .before .before .before .before .before .style-of .result)) (c .before .before .before .before .before .style-of .ensures) (c .before .before .before .mark-width .result) (c .before .before .before .mark-width .ensures) (c .before .before .before .before .letters .result) (c .before .before .before .before .letters .ensures) (c .before .mark-at .result) (1 + h .width + h .«count_width») (headIs h) (c .before .mark-at .ensures .0) (c .head-of .ensures) (length-head h)
 
 pub put-styled-spec : {M : Type 1} → statement M
 put-styled-spec =
@@ -33,8 +33,8 @@ put-styled-spec =
     (λ c κs. search needs)
     (λ c κs. search needs)
     (λ c κs. search needs)
-    (λ c κs. mark-room _ _ _ _ _ (c .before .before .before .before .before .before .before .before .before .before .pre) _ (c .before .before .before .style-of .ensures) _ (c .before .mark-width .ensures))
-    (λ c κs. omega (arith, c .mark-at .ensures .1))
+    (λ c κs. mark-room _ _ _ _ _ (c .before .before .before .before .before .before .before .before .before .before .pre .0) _ (c .before .before .before .style-of .ensures) _ (c .before .mark-width .ensures))
+    (λ c κs. (omega (arith, c .mark-at .ensures .1), rw (c .before .before .before .before .style-of .ensures) (c .before .before .before .before .before .before .before .before .before .before .before .pre .1)))
     (λ c κs. let o = here (c .before) in omega (arith, o .ahead, o .size, o .ready .room))
     (λ c. let o = here (c .before .before .before .before .before) in omega (arith, o .size, o .ready .room, c .before .before .before .before .before .before .before .before .before .before .before .before .before .before .before .before .before .good .1 .1 .0 .0))
     (λ c. let o = here (c .before .before .before .before .before .before) in omega (arith, o .size, o .ready .room, c .before .before .before .before .before .before .before .before .before .before .before .before .before .before .before .before .before .before .good .1 .1 .0 .0))

@@ -1,5 +1,7 @@
--- `head_of` is the definition's head, style by style.
+-- `head_of` is the definition's head, style by style; arrays are left out.
 use borrow.Author.Needs.{needs}
+use mathlib.Core.Path.{subst}
+use lib.Dec.{T}
 use Rattle.standard.specs.Bytes.{be}
 use Rattle.writer.specs.Heads.{head}
 use Rattle.writer.proofs.head.head_of.Statement.{statement}
@@ -33,5 +35,5 @@ head-of-spec =
     (λ c. rw (c .before .before .style2 .given .1) (c .write-text .ensures))
     (λ c. rw (c .before .before .style3 .given .1) (c .write-list .ensures))
     (λ c. rw (c .before .before .style4 .given .1) (c .write-compound .ensures))
-    (λ c. rw (c .before .before .style5 .given .1) (c .write-compound2 .ensures))
-    (λ c. rw (c .bare3 .ensures, c .before .enum-told3 .given .1)))
+    (λ c. absurd (subst T (rw (c .before .enum-told3 .given .1) at (c .before .before .before .pre .1)) tt))
+    (λ c. rw (c .bare4 .ensures, c .before .enum-told4 .given .1)))

@@ -9,7 +9,7 @@ use mathlib.Core.Path.{ap}
 use Rattle.standard.specs.Encode.{shortEnd}
 use Rattle.laws.specs.Numbers.{length-be}
 use Rattle.writer.specs.Heads.{head}
-use Rattle.writer.proofs.Sizes.{number-small}
+use Rattle.writer.proofs.Sizes.{array-long, number-small}
 use Rattle.writer.proofs.Bodies.{enclosed-width}
 use Rattle.writer.proofs.head.head_width.Statement.{statement}
 use Rattle.writer.proofs.head.head_width.Tie as tie
@@ -40,5 +40,5 @@ head-width-spec =
     (λ c. rw (c .before .enum-told3 .given .1, le-ltb (c .before .before .before .args .number) shortEnd (omega (arith, c .if1 .left))) (omega (arith, length-be 4 (c .before .before .before .args .number))))
     (λ c. rw (c .before .before .enum-told4 .given .1, ne-eqb (c .before .before .before .before .args .number) 0 (c .before .if2 .left)) (c .compound-width .ensures ∙ sym (enclosed-width _ _ _ _)))
     (λ c. rw (c .before .enum-told5 .given .1) (c .compound-width2 .ensures ∙ sym (enclosed-width _ _ _ _)))
-    (λ c. rw (c .before .enum-told6 .given .1) (c .compound-width3 .ensures ∙ sym (enclosed-width _ _ _ _)))
+    (λ c. rw (c .before .enum-told6 .given .1) (c .array-width .ensures ∙ sym (array-long _ _ _ _)))
     (λ c. rw (c .enum-told7 .given .1)))

@@ -3,7 +3,6 @@ use borrow.Author.Needs.{needs}
 use Prim.Native.Nat.{_-_}
 use mathlib.Core.Path.{refl}
 use native.Mathlib.Omega.{arith}
-use lib.Dec.{eqb}
 use Rattle.writer.specs.Marking.{due}
 use Rattle.writer.proofs.Onward.{three-sets, bit}
 use Rattle.writer.proofs.marking.open.Statement.{statement}
@@ -27,7 +26,5 @@ open-spec =
     (λ c. search needs)
     (λ c. search needs)
     (λ c. search needs)
-    (λ c. omega (arith, bit (eqb (c .before .before .before .before .args .kind) 0xf0)))
     (λ c. search needs)
-    (λ c. search needs)
-    (λ c. let a = c .before .before .before .before .before .args in (refl, three-sets (a .stack .now) (a .c .top) (a .c .size) (a .c .mark) (due (a .c .left - 1) (a .c .elements)))))
+    (λ c. let a = c .before .before .before .before .args in (refl, three-sets (a .stack .now) (a .c .top) (a .c .size) (a .c .mark) (due (a .c .left - 1) (a .c .elements)))))

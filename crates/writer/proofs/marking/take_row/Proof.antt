@@ -2,11 +2,13 @@
 use borrow.Author.Needs.{needs}
 use mathlib.Core.Path.{sym, _∙_}
 use native.Mathlib.Omega.{arith}
+use Rattle.standard.specs.Kinds.{countIn}
 use Rattle.writer.proofs.Onward.{item-bare, number-bare, pair-bare, other-bare, past-asks, past-taken}
 use Rattle.writer.proofs.marking.take_row.Statement.{statement}
 use Rattle.writer.proofs.marking.take_row.Tie as tie
 
 pub take-row-spec : {M : Type 1} → statement M
+unfolding countIn
 take-row-spec =
     tie.close
     (tie.spec

@@ -11,8 +11,5 @@ is-allowed-spec =
     (tie.spec
     (λ c. search needs)
     (λ c. search needs)
-    (λ c κs. search needs)
-    (λ c. search needs)
     (λ c. rw (c .enum-told .given .1))
-    (λ c. rw (c .before .enum-told2 .given .1, ← c .before .before .before .pre) (c .is-member .ensures))
     (λ c. rw (c .before .spot .given .1)))

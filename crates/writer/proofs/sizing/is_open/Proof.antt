@@ -4,13 +4,13 @@ use borrow.Author.Tests.{lt-ltb}
 use Rattle.standard.specs.Choose.{lookup}
 use Rattle.standard.specs.Kinds.{kinds, styleOf}
 use Rattle.standard.specs.Table.{ranged, children}
-use Rattle.writer.specs.Sizing.{codeWidth, nests, opens}
+use Rattle.writer.specs.Sizing.{nests, opens}
 use Rattle.writer.proofs.Sizes.{empty-closed, not-open, map-open, map-closed}
 use Rattle.writer.proofs.sizing.is_open.Statement.{statement}
 use Rattle.writer.proofs.sizing.is_open.Tie as tie
 
 pub is-open-spec : {M : Type 1} → statement M
-unfolding lookup kinds styleOf ranged children codeWidth nests opens
+unfolding lookup kinds styleOf ranged children nests opens
 is-open-spec =
     tie.close
     (tie.spec

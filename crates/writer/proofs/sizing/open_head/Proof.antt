@@ -10,4 +10,4 @@ open-head-spec =
     (tie.spec
     (λ c. rw (eq-eqb (c .before .args .kind) 0 (c .if1 .taken)))
     (λ c κs. search needs)
-    (λ c. rw (ne-eqb (c .before .before .args .kind) 0 (c .before .if1 .left)) (c .compound-width .ensures)))
+    (λ c. rw (ne-eqb (c .before .before .args .kind) 0 (c .before .if1 .left), ne-eqb (c .before .before .args .kind) 0xf0 (c .before .before .pre)) (c .compound-width .ensures)))

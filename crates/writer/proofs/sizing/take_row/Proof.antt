@@ -6,6 +6,7 @@ use borrow.Author.Needs.{needs}
 use native.Mathlib.Omega.{arith}
 use borrow.Author.Tests.{lt-ltb, le-ltb}
 use lib.ListN.{drop, getD, length-drop}
+use Rattle.standard.specs.Kinds.{countIn, kindIn}
 use Rattle.writer.proofs.Checks.{row-words}
 use Rattle.writer.proofs.Turns.{taken-deep, taken-missing, taken-is, taken-plain}
 use Rattle.writer.proofs.sizing.take_row.Statement.{statement}
@@ -23,6 +24,7 @@ words c =
     row-words (a .words .now) (a .row) (omega (arith, c .before .before .if2 .left, c .before .before .before .before .before .before .pre .0))
 
 pub take-row-spec : {M : Type 1} → statement M
+unfolding countIn kindIn
 take-row-spec =
     tie.close
     (tie.spec

@@ -1,11 +1,12 @@
 -- `children` is the table's number of children, style by style.
 use borrow.Author.Needs.{needs}
+use Rattle.standard.specs.Kinds.{countIn}
 use Rattle.standard.specs.Table.{children}
 use Rattle.standard.proofs.kind.Style.children.Statement.{statement}
 use Rattle.standard.proofs.kind.Style.children.Tie as tie
 
 pub children-spec : {M : Type 1} → statement M
-unfolding children
+unfolding children countIn
 children-spec =
     tie.close
     (tie.spec
