@@ -41,6 +41,9 @@ static void row(uint64_t kind, uint64_t n) {
     words[word_count++] = n;
 }
 
+/* The number of an array's row. */
+static uint64_t array(uint64_t count, uint64_t kind) { return count | kind << 32; }
+
 /* Mostly ASCII. */
 static void spell(size_t n) {
     for (; n > 0 && text_length < TEXT; n--) text[text_length++] = (uint8_t)(below(20) ? 32 + below(90) : any());
@@ -59,25 +62,32 @@ static const uint64_t kinds[] = {0x40, 0x50, 0x51, 0x56, 0x60, 0x61, 0x70, 0x71,
                                  0x83, 0x84, 0x94, 0x98, 0xa0, 0xb0, 0xb1, 0xb3, 0xd0, 0xd1, 0xf0, 0x00, 0x99};
 enum { SCALARS = 22, ELEMENTS = 25, KINDS = 26 };
 
-/* The elements of an array are of one kind, lists, maps and arrays too. */
+/* The elements of an array are of one kind, lists, maps and arrays too. Its number tells the kind, now and then a wrong one. */
 static void value(uint64_t kind, int level) {
     uint64_t count = below(below(5) ? 3 : 30), same = kinds[below(3) ? below(SCALARS) : SCALARS + below(ELEMENTS - SCALARS)];
+    int is_element = same != 0x40 && same != 0xa0;
+    uint64_t element = !below(60) ? kinds[below(KINDS + 1)] : count || is_element ? same : 0x70;
     switch (kind) {
     case 0x00: count = 2; break;
     case 0xd1: count *= 2; break;
     case 0xd0: case 0xf0: break;
     default: scalar(kind); return;
     }
-    row(kind, count);
+    row(kind, kind == 0xf0 ? array(count, element) : count);
     for (uint64_t i = 0; i < count && level < 34 && word_count < WORDS; i++)
         value(kind == 0xf0 ? same : kinds[below(below(30) ? KINDS : KINDS + 1)], level + 1);
 }
 
 /* Lists, arrays and maps, one in the other, to level 34. */
 static void chain(void) {
-    for (uint64_t left = 1 + below(34); left > 0; left--) {
+    uint64_t links[34], length = 1 + below(34);
+    for (uint64_t i = 0; i < length; i++) {
         uint64_t which = below(10);
-        row(which < 5 ? 0xd0 : which < 9 ? 0xf0 : 0xd1, which < 9 ? 1 : 1 + below(2));
+        links[i] = which < 5 ? 0xd0 : which < 9 ? 0xf0 : 0xd1;
+    }
+    for (uint64_t i = 0; i < length; i++) {
+        uint64_t next = i + 1 < length ? links[i + 1] : 0x70;
+        row(links[i], links[i] == 0xd0 ? 1 : links[i] == 0xf0 ? array(1, next) : 1 + below(2));
     }
     row(0x70, number());
 }

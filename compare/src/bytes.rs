@@ -4,6 +4,7 @@
 
 use crate::{
     damage::Damage,
+    domain,
     findings::Findings,
     forms::{self, AnyForm},
     generate::Generator,
@@ -49,6 +50,9 @@ struct Judge {
     changed: u64,
     walked: u64,
     forms: u64,
+    /// Of the accepted runs and of the tables in any form, those with an empty array that tells no kind.
+    untold: u64,
+    untold_forms: u64,
     words: Vec<u64>,
     text: Vec<u8>,
     longer: Vec<u8>,
@@ -67,6 +71,8 @@ impl Judge {
             changed: 0,
             walked: 0,
             forms: 0,
+            untold: 0,
+            untold_forms: 0,
             words: Vec::new(),
             text: Vec::new(),
             longer: Vec::new(),
@@ -91,14 +97,18 @@ impl Judge {
         self.walk(&bytes);
     }
 
-    /// A table in forms chosen at random, one-byte and four-byte ones in arrays too, is read to that table.
+    /// A table in forms chosen at random, one-byte and four-byte ones in arrays too, is read to that table. Some of its empty arrays tell no kind and
+    /// have no element code.
     fn any_form(&mut self, table: &Table, forms: &mut AnyForm) {
+        let mut table = table.clone();
+        forms.untell(&mut table);
         self.forms += 1;
+        self.untold_forms += table.untold().is_some() as u64;
         let mut bytes = Vec::new();
-        forms::write(table, forms, &mut bytes);
+        forms::write(&table, forms, &mut bytes);
         let (told, back) = ours::read_whole(&bytes);
         let due = Told::success(bytes.len(), table.rows(), table.text.len());
-        self.hold("a table in any form is read to that table", told == due && back == *table, &bytes, &told);
+        self.hold("a table in any form is read to that table", told == due && back == table, &bytes, &told);
     }
 
     fn hold(&mut self, what: &str, holds: bool, bytes: &[u8], told: &Told) {
@@ -180,7 +190,8 @@ impl Judge {
         }
     }
 
-    /// What was read is written, and that is read to the same table: all by the Rust wrapper, which has to say the same.
+    /// What was read is written, and that is read to the same table: all by the Rust wrapper, which has to say the same. Not so where an empty array tells
+    /// no kind: that is refused at its row.
     fn again(&mut self, bytes: &[u8], told: &Told) {
         let mut table = Table { words: vec![0; 2 * told.rows as usize], text: vec![0; told.text as usize] };
         let read = afsungar::read(bytes, &mut table.words, &mut table.text);
@@ -189,8 +200,20 @@ impl Judge {
         let size = afsungar::size(&table.words, &table.text);
         let mut out = vec![PATTERN; size.unwrap_or(0)];
         let written = afsungar::write(&table.words, &table.text, &mut out);
-        let back = ours::read_whole(&out).1;
-        self.hold("what was read is written and read again", size.is_ok() && written == size && back == table, bytes, told);
+        self.hold("the Rust wrapper's sizing and writing agree", written == size, bytes, told);
+        let due = table.untold().map(|row| Told::refusal(5, row as u64));
+        self.hold("the judge refuses what tells no kind, and nothing else", domain::refusal(&table) == due, bytes, told);
+        match due {
+            Some(due) => {
+                self.untold += 1;
+                let refused = size.is_err_and(|refusal| Told::refusal(refusal.number as u64, refusal.place) == due);
+                self.hold("an empty array that was read and tells no kind is refused", refused, bytes, told);
+            }
+            None => {
+                let back = ours::read_whole(&out).1;
+                self.hold("what was read is written and read again", size.is_ok() && back == table, bytes, told);
+            }
+        }
     }
 
     /// A step from the start is measuring; from the end on it is done.
@@ -244,6 +267,7 @@ impl Judge {
             &[
                 of("runs of bytes", plan.runs),
                 of("accepted", self.numbers[0]),
+                of("of these with an empty array that tells no kind, all refused by the writer (5 at its row)", self.untold),
                 refused(3),
                 refused(4),
                 refused(9),
@@ -255,6 +279,7 @@ impl Judge {
                 of("of these with another answer, all of them a 9 before", self.changed),
                 of("steps of walks through runs end to end", self.walked),
                 of("tables in forms chosen at random, read to the same tables", self.forms),
+                of("of these with an empty array that tells no kind and has no element code", self.untold_forms),
             ],
         );
     }

@@ -83,8 +83,17 @@ impl Damage {
     /// Lists, arrays and described values, one in the other, to about the last level or beyond it. An array of one element has the bytes of a
     /// list of one value, but for its code.
     fn deep(&mut self) {
-        let inner: [&[u8]; 8] =
-            [&[0x40], &[0x45], &[0x50, 7], &[0xc0, 1, 0], &[0xe0, 1, 0], &[0xe0, 1, 1], &[0xc1, 1, 2], &[0x46]];
+        let inner: [&[u8]; 9] = [
+            &[0x40],
+            &[0x45],
+            &[0x50, 7],
+            &[0xc0, 1, 0],
+            &[0xe0, 1, 0],
+            &[0xe0, 2, 0, 0x70],
+            &[0xe0, 1, 1],
+            &[0xc1, 1, 2],
+            &[0x46],
+        ];
         let inner = self.random.of(&inner);
         let wraps =
             self.random.of(&[&[0xc0][..], &[0xe0], &[0xc0, 0xe0], &[0xd0, 0xe0, 0xe0], &[0xf0, 0xc0], &[0x00, 0xe0, 0xc0]]);
@@ -124,7 +133,9 @@ impl Damage {
         };
         self.bytes.clear();
         if self.random.once_in(2) {
-            return forms::write(table, &mut self.forms, &mut self.bytes);
+            let mut table = table.clone();
+            self.forms.untell(&mut table);
+            return forms::write(&table, &mut self.forms, &mut self.bytes);
         }
         self.bytes.resize(ours::size(table).length as usize, 0);
         ours::write(table, &mut self.bytes);

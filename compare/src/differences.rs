@@ -5,7 +5,7 @@ use crate::{
     original,
     ours::{self, PATTERN},
     report,
-    table::{Kind, Table},
+    table::{array, shown, Kind, Table},
 };
 use std::collections::BTreeSet;
 
@@ -29,10 +29,10 @@ const NOTHING: &str = "-";
 /// The document. It has a section for each difference, where tables and bytes stand in backticks.
 const DOCUMENT: &str = include_str!("../../docs/DIFFERENCES.md");
 
-const CASES: [Case; 39] = [
+const CASES: [Case; 40] = [
     Case {
         difference: 1,
-        rows: &[(Kind::Array, 1), (Kind::String, 2)],
+        rows: &[array(Kind::String, 1), (Kind::String, 2)],
         text: "c3 98",
         crate_does: "e0 08 01 b1 00 00 00 01 c3 98",
         we_do: "e0 08 01 b1 00 00 00 02 c3 98",
@@ -41,16 +41,16 @@ const CASES: [Case; 39] = [
     },
     Case {
         difference: 2,
-        rows: &[(Kind::Array, 2), (Kind::Null, 0), (Kind::Null, 0)],
+        rows: &[array(Kind::Null, 2), (Kind::Null, 0), (Kind::Null, 0)],
         text: "",
         crate_does: "e0 03 02 40 40",
-        we_do: "4 at 1",
+        we_do: "4 at 0",
         we_read: "4 at 0",
         part_1: "one element code, empty payloads: `e0 02 02 40`",
     },
     Case {
         difference: 2,
-        rows: &[(Kind::Array, 2), (Kind::List, 0), (Kind::List, 0)],
+        rows: &[array(Kind::List, 2), (Kind::List, 0), (Kind::List, 0)],
         text: "",
         crate_does: "e0 03 02 45 45",
         we_do: "e0 12 02 d0 00 00 00 04 00 00 00 00 00 00 00 04 00 00 00 00",
@@ -59,7 +59,7 @@ const CASES: [Case; 39] = [
     },
     Case {
         difference: 2,
-        rows: &[(Kind::Array, 2), (Kind::List, 1), (Kind::Null, 0), (Kind::List, 0)],
+        rows: &[array(Kind::List, 2), (Kind::List, 1), (Kind::Null, 0), (Kind::List, 0)],
         text: "",
         crate_does: "e0 06 02 c0 02 01 40 45",
         we_do: "e0 13 02 d0 00 00 00 05 00 00 00 01 40 00 00 00 04 00 00 00 00",
@@ -68,7 +68,7 @@ const CASES: [Case; 39] = [
     },
     Case {
         difference: 2,
-        rows: &[(Kind::Array, 2), (Kind::List, 0), (Kind::List, 1), (Kind::Null, 0)],
+        rows: &[array(Kind::List, 2), (Kind::List, 0), (Kind::List, 1), (Kind::Null, 0)],
         text: "",
         crate_does: "e0 05 02 45 02 01 40",
         we_do: "e0 13 02 d0 00 00 00 04 00 00 00 00 00 00 00 05 00 00 00 01 40",
@@ -77,7 +77,7 @@ const CASES: [Case; 39] = [
     },
     Case {
         difference: 2,
-        rows: &[(Kind::Array, 1), (Kind::List, 0)],
+        rows: &[array(Kind::List, 1), (Kind::List, 0)],
         text: "",
         crate_does: "e0 02 01 45",
         we_do: "e0 0a 01 d0 00 00 00 04 00 00 00 00",
@@ -86,25 +86,25 @@ const CASES: [Case; 39] = [
     },
     Case {
         difference: 2,
-        rows: &[(Kind::Array, 1), (Kind::Null, 0)],
+        rows: &[array(Kind::Null, 1), (Kind::Null, 0)],
         text: "",
         crate_does: "e0 02 01 40",
-        we_do: "4 at 1",
+        we_do: "4 at 0",
         we_read: "4 at 0",
         part_1: "the crate's bytes; that we refuse them is our own choice",
     },
     Case {
         difference: 3,
-        rows: &[(Kind::Array, 2), (Kind::Ubyte, 0), (Kind::Byte, 0)],
+        rows: &[array(Kind::Ubyte, 2), (Kind::Ubyte, 0), (Kind::Byte, 0)],
         text: "",
         crate_does: "e0 04 02 50 00 00",
         we_do: "4 at 2",
-        we_read: "`f0:2 50:0 50:0`",
+        we_read: "`[50:2] 50:0 50:0`",
         part_1: "all elements are of one type: no such array",
     },
     Case {
         difference: 3,
-        rows: &[(Kind::Array, 2), (Kind::Ubyte, 0), (Kind::Ushort, 0)],
+        rows: &[array(Kind::Ubyte, 2), (Kind::Ubyte, 0), (Kind::Ushort, 0)],
         text: "",
         crate_does: "e0 05 02 50 00 00 00",
         we_do: "4 at 2",
@@ -113,21 +113,30 @@ const CASES: [Case; 39] = [
     },
     Case {
         difference: 3,
-        rows: &[(Kind::Array, 2), (Kind::Ubyte, 7), (Kind::Null, 0)],
+        rows: &[array(Kind::Ubyte, 2), (Kind::Ubyte, 7), (Kind::Null, 0)],
         text: "",
         crate_does: "e0 04 02 50 07 40",
         we_do: "4 at 2",
-        we_read: "`f0:2 50:7 50:64`",
+        we_read: "`[50:2] 50:7 50:64`",
         part_1: "all elements are of one type: no such array",
+    },
+    Case {
+        difference: 4,
+        rows: &[array(Kind::Uint, 0)],
+        text: "",
+        crate_does: "e0 01 00",
+        we_do: "e0 02 00 70",
+        we_read: "`f0:0`",
+        part_1: "an element code even so: ours",
     },
     Case {
         difference: 4,
         rows: &[(Kind::Array, 0)],
         text: "",
         crate_does: "e0 01 00",
-        we_do: "e0 01 00",
+        we_do: "5 at 0",
         we_read: IT,
-        part_1: "an element code even so, as `e0 02 00 70`: neither",
+        part_1: "an element code even so: no such array",
     },
     Case {
         difference: 4,
@@ -158,10 +167,10 @@ const CASES: [Case; 39] = [
     },
     Case {
         difference: 5,
-        rows: &[(Kind::Map, 2), (Kind::Array, 0), (Kind::List, 0)],
+        rows: &[(Kind::Map, 2), array(Kind::Uint, 0), (Kind::List, 0)],
         text: "",
         crate_does: "c1 07 02 e0 01 00 e0 01 00",
-        we_do: "c1 05 02 e0 01 00 45",
+        we_do: "c1 06 02 e0 02 00 70 45",
         we_read: "`d1:2 f0:0 f0:0`",
         part_1: "a list is no array: ours",
     },
@@ -185,10 +194,10 @@ const CASES: [Case; 39] = [
     },
     Case {
         difference: 5,
-        rows: &[(Kind::Described, 2), (Kind::Array, 0), (Kind::List, 0)],
+        rows: &[(Kind::Described, 2), array(Kind::Uint, 0), (Kind::List, 0)],
         text: "",
         crate_does: "00 e0 01 00 e0 01 00",
-        we_do: "00 e0 01 00 45",
+        we_do: "00 e0 02 00 70 45",
         we_read: "`00:2 f0:0 f0:0`",
         part_1: "ours",
     },
@@ -197,7 +206,7 @@ const CASES: [Case; 39] = [
         rows: &[(Kind::Array, 1), (Kind::Described, 2), (Kind::Symbol, 0), (Kind::String, 0)],
         text: "",
         crate_does: "e0 0c 01 00 b3 00 00 00 00 b3 00 00 00 00",
-        we_do: "4 at 1",
+        we_do: "5 at 0",
         we_read: "4 at 0",
         part_1: "a string is no symbol: `e0 0c 01 00 b3 00 00 00 00 b1 00 00 00 00`",
     },
@@ -206,7 +215,7 @@ const CASES: [Case; 39] = [
         rows: &[(Kind::Array, 1), (Kind::Described, 2), (Kind::Symbol, 0), (Kind::Long, 0)],
         text: "",
         crate_does: "panics: internal error: entered unreachable code",
-        we_do: "4 at 1",
+        we_do: "5 at 0",
         we_read: NOTHING,
         part_1: "an array as any other",
     },
@@ -215,7 +224,7 @@ const CASES: [Case; 39] = [
         rows: &[(Kind::Array, 1), (Kind::Described, 2), (Kind::Symbol, 0), (Kind::Binary, 0)],
         text: "",
         crate_does: "panics: internal error: entered unreachable code",
-        we_do: "4 at 1",
+        we_do: "5 at 0",
         we_read: NOTHING,
         part_1: "an array as any other",
     },
@@ -239,7 +248,7 @@ const CASES: [Case; 39] = [
     },
     Case {
         difference: 7,
-        rows: &[(Kind::Array, 2), (Kind::List, 1), (Kind::Null, 0), (Kind::List, 1), (Kind::Binary, 253)],
+        rows: &[array(Kind::List, 2), (Kind::List, 1), (Kind::Null, 0), (Kind::List, 1), (Kind::Binary, 253)],
         text: "00*253",
         crate_does: "f0 00 00 01 0f 00 00 00 02 c0 02 01 40 00 00 01 03 00 00 00 01 a0 fd 00*253",
         we_do: "f0 00 00 01 15 00 00 00 02 d0 00 00 00 05 00 00 00 01 40 00 00 01 03 00 00 00 01 a0 fd 00*253",
@@ -248,7 +257,7 @@ const CASES: [Case; 39] = [
     },
     Case {
         difference: 7,
-        rows: &[(Kind::Array, 2), (Kind::List, 1), (Kind::Binary, 253), (Kind::List, 1), (Kind::Null, 0)],
+        rows: &[array(Kind::List, 2), (Kind::List, 1), (Kind::Binary, 253), (Kind::List, 1), (Kind::Null, 0)],
         text: "00*253",
         crate_does: "f0 00 00 01 0f 00 00 00 02 d0 00 00 01 03 00 00 00 01 a0 fd 00*253 02 01 40",
         we_do: "f0 00 00 01 15 00 00 00 02 d0 00 00 01 03 00 00 00 01 a0 fd 00*256 05 00 00 00 01 40",
@@ -257,7 +266,7 @@ const CASES: [Case; 39] = [
     },
     Case {
         difference: 7,
-        rows: &[(Kind::Array, 2), (Kind::Map, 0), (Kind::Map, 2), (Kind::Null, 0), (Kind::Binary, 252)],
+        rows: &[array(Kind::Map, 2), (Kind::Map, 0), (Kind::Map, 2), (Kind::Null, 0), (Kind::Binary, 252)],
         text: "00*252",
         crate_does: "f0 00 00 01 0e 00 00 00 02 c1 01 00 00 00 01 03 00 00 00 02 40 a0 fc 00*252",
         we_do: "f0 00 00 01 14 00 00 00 02 d1 00 00 00 04 00 00 00 00 00 00 01 03 00 00 00 02 40 a0 fc 00*252",
@@ -266,7 +275,7 @@ const CASES: [Case; 39] = [
     },
     Case {
         difference: 7,
-        rows: &[(Kind::Array, 2), (Kind::Map, 2), (Kind::Null, 0), (Kind::Binary, 252), (Kind::Map, 0)],
+        rows: &[array(Kind::Map, 2), (Kind::Map, 2), (Kind::Null, 0), (Kind::Binary, 252), (Kind::Map, 0)],
         text: "00*252",
         crate_does: "f0 00 00 01 0e 00 00 00 02 d1 00 00 01 03 00 00 00 02 40 a0 fc 00*252 01 00",
         we_do: "f0 00 00 01 14 00 00 00 02 d1 00 00 01 03 00 00 00 02 40 a0 fc 00*255 04 00 00 00 00",
@@ -275,21 +284,21 @@ const CASES: [Case; 39] = [
     },
     Case {
         difference: 7,
-        rows: &[(Kind::Array, 2), (Kind::Array, 0), (Kind::Array, 1), (Kind::Binary, 250)],
+        rows: &[array(Kind::Array, 2), array(Kind::Binary, 0), array(Kind::Binary, 1), (Kind::Binary, 250)],
         text: "00*250",
         crate_does: "f0 00 00 01 0e 00 00 00 02 e0 01 00 00 00 01 03 00 00 00 01 b0 00 00 00 fa 00*250",
-        we_do: "f0 00 00 01 14 00 00 00 02 f0 00 00 00 04 00 00 00 00 00 00 01 03 00 00 00 01 b0 00 00 00 fa 00*250",
+        we_do: "f0 00 00 01 15 00 00 00 02 f0 00 00 00 05 00 00 00 00 b0 00 00 01 03 00 00 00 01 b0 00 00 00 fa 00*250",
         we_read: "12 at 0",
-        part_1: "fields as wide as the element code says, an element code in the empty array: neither",
+        part_1: "fields as wide as the element code says, an element code in the empty array: ours",
     },
     Case {
         difference: 7,
-        rows: &[(Kind::Array, 2), (Kind::Array, 1), (Kind::Binary, 250), (Kind::Array, 0)],
+        rows: &[array(Kind::Array, 2), array(Kind::Binary, 1), (Kind::Binary, 250), array(Kind::Binary, 0)],
         text: "00*250",
         crate_does: "f0 00 00 01 0e 00 00 00 02 f0 00 00 01 03 00 00 00 01 b0 00 00 00 fa 00*250 01 00",
-        we_do: "f0 00 00 01 14 00 00 00 02 f0 00 00 01 03 00 00 00 01 b0 00 00 00 fa 00*253 04 00 00 00 00",
+        we_do: "f0 00 00 01 15 00 00 00 02 f0 00 00 01 03 00 00 00 01 b0 00 00 00 fa 00*253 05 00 00 00 00 b0",
         we_read: "9 at 0",
-        part_1: "fields as wide as the element code says, an element code in the empty array: neither",
+        part_1: "fields as wide as the element code says, an element code in the empty array: ours",
     },
     Case {
         difference: 7,
@@ -304,7 +313,7 @@ const CASES: [Case; 39] = [
         ],
         text: "",
         crate_does: "e0 17 02 00 80 00 00 00 00 00 00 00 01 50 07 00*8 01 07",
-        we_do: "4 at 1",
+        we_do: "5 at 0",
         we_read: "4 at 0",
         part_1: "the descriptor once, `e0 07 02 00 53 01 50 07 07`",
     },
@@ -321,13 +330,13 @@ const CASES: [Case; 39] = [
         ],
         text: "",
         crate_does: "e0 0f 02 00 b3 00 00 00 00 50 07 00 00 00 00 00 07",
-        we_do: "4 at 1",
+        we_do: "5 at 0",
         we_read: "4 at 0",
         part_1: "the descriptor once, `e0 07 02 00 a3 00 50 07 07`",
     },
     Case {
         difference: 7,
-        rows: &[(Kind::Array, 2), (Kind::List, 1), (Kind::Null, 0), (Kind::List, 1), (Kind::Null, 0)],
+        rows: &[array(Kind::List, 2), (Kind::List, 1), (Kind::Null, 0), (Kind::List, 1), (Kind::Null, 0)],
         text: "",
         crate_does: "e0 08 02 c0 02 01 40 02 01 40",
         we_do: "e0 14 02 d0 00 00 00 05 00 00 00 01 40 00 00 00 05 00 00 00 01 40",
@@ -336,7 +345,7 @@ const CASES: [Case; 39] = [
     },
     Case {
         difference: 7,
-        rows: &[(Kind::Array, 2), (Kind::Map, 0), (Kind::Map, 0)],
+        rows: &[array(Kind::Map, 2), (Kind::Map, 0), (Kind::Map, 0)],
         text: "",
         crate_does: "e0 06 02 c1 01 00 01 00",
         we_do: "e0 12 02 d1 00 00 00 04 00 00 00 00 00 00 00 04 00 00 00 00",
@@ -345,7 +354,7 @@ const CASES: [Case; 39] = [
     },
     Case {
         difference: 7,
-        rows: &[(Kind::Array, 2), (Kind::Array, 1), (Kind::Ubyte, 7), (Kind::Array, 1), (Kind::Ubyte, 8)],
+        rows: &[array(Kind::Array, 2), array(Kind::Ubyte, 1), (Kind::Ubyte, 7), array(Kind::Ubyte, 1), (Kind::Ubyte, 8)],
         text: "",
         crate_does: "e0 0a 02 e0 03 01 50 07 03 01 50 08",
         we_do: "e0 16 02 f0 00 00 00 06 00 00 00 01 50 07 00 00 00 06 00 00 00 01 50 08",
@@ -354,7 +363,7 @@ const CASES: [Case; 39] = [
     },
     Case {
         difference: 7,
-        rows: &[(Kind::Array, 1), (Kind::List, 1), (Kind::List, 1), (Kind::Null, 0)],
+        rows: &[array(Kind::List, 1), (Kind::List, 1), (Kind::List, 1), (Kind::Null, 0)],
         text: "",
         crate_does: "e0 08 01 c0 05 01 c0 02 01 40",
         we_do: "e0 0e 01 d0 00 00 00 08 00 00 00 01 c0 02 01 40",
@@ -363,7 +372,7 @@ const CASES: [Case; 39] = [
     },
     Case {
         difference: 7,
-        rows: &[(Kind::Array, 1), (Kind::Array, 1), (Kind::Array, 1), (Kind::Ubyte, 7)],
+        rows: &[array(Kind::Array, 1), array(Kind::Array, 1), array(Kind::Ubyte, 1), (Kind::Ubyte, 7)],
         text: "",
         crate_does: "e0 09 01 e0 06 01 e0 03 01 50 07",
         we_do: "e0 15 01 f0 00 00 00 0f 00 00 00 01 f0 00 00 00 06 00 00 00 01 50 07",
@@ -372,7 +381,7 @@ const CASES: [Case; 39] = [
     },
     Case {
         difference: 7,
-        rows: &[(Kind::Array, 1), (Kind::List, 1), (Kind::Binary, 253)],
+        rows: &[array(Kind::List, 1), (Kind::List, 1), (Kind::Binary, 253)],
         text: "00*253",
         crate_does: "f0 00 00 01 0c 00 00 00 01 d0 00 00 01 03 00 00 00 01 a0 fd 00*253",
         we_do: "f0 00 00 01 0c 00 00 00 01 d0 00 00 01 03 00 00 00 01 a0 fd 00*253",
@@ -384,18 +393,18 @@ const CASES: [Case; 39] = [
         rows: &[(Kind::Array, 1), (Kind::Described, 2), (Kind::Ulong, 1), (Kind::Ubyte, 7)],
         text: "",
         crate_does: "e0 0d 01 00 80 00 00 00 00 00 00 00 01 50 07",
-        we_do: "4 at 1",
+        we_do: "5 at 0",
         we_read: "4 at 0",
         part_1: "the crate's bytes; that we refuse them is our own choice",
     },
     Case {
         difference: 7,
-        rows: &[(Kind::Array, 2), (Kind::Array, 0), (Kind::Array, 0)],
+        rows: &[array(Kind::Array, 2), array(Kind::Uint, 0), array(Kind::Uint, 0)],
         text: "",
         crate_does: "e0 06 02 e0 01 00 01 00",
-        we_do: "e0 12 02 f0 00 00 00 04 00 00 00 00 00 00 00 04 00 00 00 00",
-        we_read: IT,
-        part_1: "an element code in each empty array: neither",
+        we_do: "e0 14 02 f0 00 00 00 05 00 00 00 00 70 00 00 00 05 00 00 00 00 70",
+        we_read: "`[f0:2] f0:0 f0:0`",
+        part_1: "an element code in each empty array: ours",
     },
 ];
 
@@ -438,7 +447,7 @@ fn unlike_document() -> Vec<String> {
     for case in &CASES {
         let stated = stated(case.difference);
         for due in [rows(case).as_str(), case.crate_does, case.we_do] {
-            let is_shown = due.split(' ').all(|word| word.len() > 1 && word.as_bytes()[..2].iter().all(u8::is_ascii_hexdigit));
+            let is_shown = due.split(' ').all(begins_in_hex);
             if is_shown && !stated.contains(&due) {
                 unlike.push(format!("{} does not state `{due}`", case.difference));
             }
@@ -453,10 +462,21 @@ fn unlike_document() -> Vec<String> {
     }
     for difference in CASES.iter().map(|case| case.difference).collect::<BTreeSet<_>>() {
         let run: Vec<_> = CASES.iter().filter(|case| case.difference == difference).map(rows).collect();
-        let tables = stated(difference).into_iter().filter(|words| words.as_bytes().get(2) == Some(&b':'));
+        let tables = stated(difference).into_iter().filter(|words| unboxed(words).as_bytes().get(2) == Some(&b':'));
         unlike.extend(tables.filter(|table| !run.iter().any(|rows| rows == table)).map(|table| format!("`{table}` is not run")));
     }
     unlike
+}
+
+/// Without the bracket that the row of an array begins with.
+fn unboxed(word: &str) -> &str {
+    word.strip_prefix('[').unwrap_or(word)
+}
+
+/// Whether it is a byte, or the first word of a row.
+fn begins_in_hex(word: &str) -> bool {
+    let word = unboxed(word).as_bytes();
+    word.len() > 1 && word[..2].iter().all(u8::is_ascii_hexdigit)
 }
 
 /// The section of a difference.
@@ -476,7 +496,7 @@ fn plain(text: &str) -> String {
 }
 
 fn rows(case: &Case) -> String {
-    let rows: Vec<_> = case.rows.iter().map(|&(kind, number)| format!("{:02x}:{number}", kind as u8)).collect();
+    let rows: Vec<_> = case.rows.iter().map(|&(kind, number)| shown(kind as u64, number)).collect();
     rows.join(" ")
 }
 
@@ -517,7 +537,7 @@ fn we_read(table: &Table) -> String {
 }
 
 fn title(table: &Table) -> String {
-    let rows: Vec<_> = table.words.chunks(2).map(|row| format!("{:02x}:{}", row[0], row[1])).collect();
+    let rows: Vec<_> = table.words.chunks(2).map(|row| shown(row[0], row[1])).collect();
     let text = if table.text.is_empty() { String::new() } else { format!(", text {}", runs(&table.text)) };
     format!("{}{text}", rows.join(" "))
 }

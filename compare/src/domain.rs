@@ -3,7 +3,7 @@
 
 use crate::{
     ours::Told,
-    table::{Kind, Row, Table},
+    table::{count_in, kind_in, Kind, Row, Table},
 };
 
 pub const MOST: u64 = 1_048_576;
@@ -21,6 +21,11 @@ pub fn is_table(table: &Table) -> bool {
 
 /// Whether a table is, beside that, one for which the crate's bytes have to be ours.
 pub fn is_equal(table: &Table) -> bool {
+    !table.has_empty_array() && is_equal_but_empty(table)
+}
+
+/// The same but for empty arrays, which the crate has no element code for.
+pub fn is_equal_but_empty(table: &Table) -> bool {
     let mut equal = true;
     let accepted = walk(table, &mut |row, spot| {
         equal &= match spot {
@@ -39,8 +44,8 @@ enum Spot {
     Any,
     Key,
     Descriptor,
-    /// With the kind of the elements before it.
-    Element(Option<Kind>),
+    /// With the kind that the array tells.
+    Element(Kind),
 }
 
 /// Goes over a whole table, shows each row that is good to `see`, and gives the first refusal.
@@ -67,28 +72,21 @@ struct Left<'a> {
 }
 
 impl<'a> Left<'a> {
-    /// Takes a value's rows away; gives its kind if all is well with it.
-    fn value(&mut self, level: u32, spot: Spot, see: &mut impl FnMut(&Row, Spot)) -> Result<Kind, Told> {
+    /// Takes a value's rows away, if all is well with it.
+    fn value(&mut self, level: u32, spot: Spot, see: &mut impl FnMut(&Row, Spot)) -> Result<(), Told> {
         let row = self.take(level, spot)?;
         see(&row, spot);
-        match row.kind {
-            Kind::List => (0..row.number).try_for_each(|_| self.value(level + 1, Spot::Any, see).map(drop))?,
-            Kind::Map => {
-                let spot = |i| if i % 2 == 0 { Spot::Key } else { Spot::Any };
-                (0..row.number).try_for_each(|i| self.value(level + 1, spot(i), see).map(drop))?
-            }
-            Kind::Array => {
-                let mut first = None;
-                (0..row.number)
-                    .try_for_each(|_| self.value(level + 1, Spot::Element(first), see).map(|kind| first = Some(kind)))?
-            }
-            Kind::Described => {
-                self.value(level + 1, Spot::Descriptor, see)?;
-                self.value(level + 1, if spot == Spot::Key { Spot::Key } else { Spot::Any }, see)?;
-            }
-            _ => {}
+        for i in 0..row.children() {
+            let below = match row.kind {
+                Kind::Array => Spot::Element(row.element().expect("an array that was taken tells a kind")),
+                Kind::Map if i % 2 == 0 => Spot::Key,
+                Kind::Described if i == 0 => Spot::Descriptor,
+                Kind::Described if spot == Spot::Key => Spot::Key,
+                _ => Spot::Any,
+            };
+            self.value(level + 1, below, see)?;
         }
-        Ok(row.kind)
+        Ok(())
     }
 
     /// The next row, with its text, if all is well with it.
@@ -100,10 +98,11 @@ impl<'a> Left<'a> {
         let kind = Kind::of(table.words[2 * self.row]).ok_or(Told::refusal(2, self.row as u64))?;
         need(level <= LEVELS, 3)?;
         let alike = match spot {
-            Spot::Element(first) => kind.is_element() && first.map_or(true, |first| first == kind),
+            Spot::Element(told) => kind == told,
             _ => true,
         };
         need(alike, 4)?;
+        need(kind != Kind::Array || kind_in(number) != Kind::Null as u64, 4)?;
         need(number_fits(kind, number), 5)?;
         let length = kind.text(number);
         need(length <= table.text.len() - self.text, 6)?;
@@ -121,7 +120,8 @@ fn number_fits(kind: Kind, number: u64) -> bool {
         Kind::Char => u32::try_from(number).is_ok_and(|n| char::from_u32(n).is_some()),
         Kind::Described => number == 2,
         Kind::Map => number <= MOST && number % 2 == 0,
-        Kind::Binary | Kind::String | Kind::Symbol | Kind::List | Kind::Array => number <= MOST,
+        Kind::Array => count_in(number) <= MOST && Kind::of(kind_in(number)).is_some_and(Kind::is_element),
+        Kind::Binary | Kind::String | Kind::Symbol | Kind::List => number <= MOST,
         kind => kind.bits().is_some_and(|bits| bits == 64 || number >> bits == 0),
     }
 }

@@ -8,7 +8,7 @@ use crate::{
     original::{self, Trouble},
     ours::{self, Told, PATTERN},
     report, small,
-    table::{hex, Kind, Row, Rows, Table},
+    table::{hex, Kind, Rows, Table},
 };
 
 pub struct Plan {
@@ -17,6 +17,9 @@ pub struct Plan {
     /// The most rows of the tables that are all tried.
     pub rows: usize,
 }
+
+/// The most rows of the tables whose empty arrays tell each of the 25 kinds.
+const FEW: usize = 3;
 
 pub fn run(plan: &Plan) -> Findings {
     report::heading("Our bytes and the ported crate's");
@@ -27,20 +30,27 @@ pub fn run(plan: &Plan) -> Findings {
         all.beside_judge(any.table());
     }
     let mut outside = Outside::default();
-    small::each(plan.rows, &small::ALPHABET, &mut |table| {
+    small::each(plan.rows, &small::ALPHABET, &small::EMPTY, &mut |table| {
         if domain::is_equal(table) {
             small.beside_crate(table);
         } else {
             outside.try_table(table);
         }
     });
+    let mut empty = Outside::default();
+    small::each(FEW, &small::ALPHABET, &Kind::ALL, &mut |table| {
+        if table.has_empty_array() {
+            empty.try_table(table);
+        }
+    });
 
     let line = |name: String, judge: &Judge| {
         let c = &judge.counts;
-        let [tables, nested, rows, bytes] = [c.tables, c.nested, c.rows, c.bytes].map(report::number);
-        vec![name, tables, nested, rows, bytes, c.deepest.to_string(), judge.failed.to_string()]
+        let [tables, nested, empty, rows, bytes] = [c.tables, c.nested, c.empty, c.rows, c.bytes].map(report::number);
+        vec![name, tables, nested, empty, rows, bytes, c.deepest.to_string(), judge.failed.to_string()]
     };
-    const HEAD: [&str; 7] = ["", "tables", "with arrays of lists, maps or arrays", "rows", "bytes", "deepest", "unequal"];
+    const HEAD: [&str; 8] =
+        ["", "tables", "with arrays of lists, maps or arrays", "with empty arrays", "rows", "bytes", "deepest", "unequal"];
     report::table(
         1,
         &[&["inside the domain, beside the crate"], &HEAD[1..]].concat(),
@@ -60,16 +70,17 @@ pub fn run(plan: &Plan) -> Findings {
     println!(
         "shorter is refused (8 at 0) and not touched; behind the bytes nothing is touched; reading them gives the table again.\n"
     );
-    outside.print(plan.rows);
+    Outside::print(plan.rows, &outside, &empty);
     let mut faults = faults::Judge::new(plan.seed);
     for _ in 0..plan.random {
         faults.next();
     }
-    faults.print(plan.random);
+    faults.each_array();
+    faults.print();
 
     let mut findings = random.findings;
-    for (what, found) in [small.findings, all.findings, outside.findings, faults.findings].iter().flat_map(Findings::iter) {
-        findings.note(what, found.size, || found.example.clone());
+    for others in [small.findings, all.findings, outside.findings, empty.findings, faults.findings] {
+        findings.add(others);
     }
     findings.print();
     findings
@@ -80,18 +91,32 @@ struct Counts {
     tables: u64,
     /// Of these with an array of lists, maps or arrays.
     nested: u64,
+    /// Of these with an empty array.
+    empty: u64,
     rows: u64,
     bytes: u64,
     deepest: u32,
     kinds: [u64; 256],
     forms: [u64; 256],
-    /// Arrays that are not empty, by the kind of their elements.
+    /// Arrays that are not empty, and empty ones, by the kind that they tell.
     arrays: [u64; 256],
+    empty_arrays: [u64; 256],
 }
 
 impl Default for Counts {
     fn default() -> Self {
-        Counts { tables: 0, nested: 0, rows: 0, bytes: 0, deepest: 0, kinds: [0; 256], forms: [0; 256], arrays: [0; 256] }
+        Counts {
+            tables: 0,
+            nested: 0,
+            empty: 0,
+            rows: 0,
+            bytes: 0,
+            deepest: 0,
+            kinds: [0; 256],
+            forms: [0; 256],
+            arrays: [0; 256],
+            empty_arrays: [0; 256],
+        }
     }
 }
 
@@ -99,7 +124,11 @@ impl Counts {
     fn add(&mut self, table: &Table, bytes: &[u8]) {
         self.tables += 1;
         self.nested += table.is_nested() as u64;
-        table.elements().for_each(|kind| self.arrays[kind as usize & 0xff] += 1);
+        self.empty += table.has_empty_array() as u64;
+        for (kind, count) in table.arrays() {
+            let counts = if count == 0 { &mut self.empty_arrays } else { &mut self.arrays };
+            counts[kind as usize & 0xff] += 1;
+        }
         self.rows += table.rows() as u64;
         self.bytes += bytes.len() as u64;
         self.deepest = self.deepest.max(depth(table));
@@ -108,9 +137,7 @@ impl Counts {
     }
 
     fn print(&self) {
-        let kinds: Vec<_> =
-            Kind::ALL.iter().map(|&kind| format!("{kind:?} {}", report::number(self.kinds[kind as usize]))).collect();
-        println!("Rows of the random tables by kind: {}.\n", kinds.join(", "));
+        println!("Rows of the random tables by kind: {}.\n", by_kind(&Kind::ALL, &self.kinds));
         let forms: Vec<_> = (0..256)
             .filter(|&code| self.forms[code] > 0)
             .map(|code| format!("{code:02x} {}", report::number(self.forms[code])))
@@ -119,23 +146,27 @@ impl Counts {
     }
 
     fn print_arrays(&self) {
-        let held: Vec<_> =
-            Kind::COMPOUNDS.map(|kind| format!("{kind:?} {}", report::number(self.arrays[kind as usize]))).to_vec();
         let others = Kind::SCALARS.iter().map(|&kind| self.arrays[kind as usize]).sum();
         println!(
             "Their arrays that are not empty, by what they hold: {}, all others {}.\n",
-            held.join(", "),
+            by_kind(&Kind::COMPOUNDS, &self.arrays),
             report::number(others)
         );
+        println!("Their empty arrays, by what they tell: {}.\n", by_kind(&Kind::ELEMENTS, &self.empty_arrays));
     }
+}
+
+/// How many there are of each of these kinds.
+pub fn by_kind(kinds: &[Kind], counts: &[u64; 256]) -> String {
+    let all: Vec<_> = kinds.iter().map(|&kind| format!("{kind:?} {}", report::number(counts[kind as usize]))).collect();
+    all.join(", ")
 }
 
 /// The level of the deepest value.
 pub fn depth(table: &Table) -> u32 {
     fn below(rows: &mut Rows) -> u32 {
-        let Some(Row { kind, number, .. }) = rows.next() else { return 0 };
-        let children = if kind.has_children() { number } else { 0 };
-        1 + (0..children).map(|_| below(rows)).max().unwrap_or(0)
+        let Some(row) = rows.next() else { return 0 };
+        1 + (0..row.children()).map(|_| below(rows)).max().unwrap_or(0)
     }
     below(&mut Rows::of(table))
 }
@@ -215,10 +246,13 @@ struct Outside {
     equal: u64,
     differ: u64,
     panics: u64,
-    /// How we read the crate's bytes where they are not ours: to that table, to another, or not at all.
+    /// How we read the crate's bytes where they are not ours: to that table, to that but for the kinds of its empty arrays, to another, or not at all.
     read_same: u64,
+    read_untold: u64,
     read_other: u64,
     unread: u64,
+    /// Tables for which the crate's bytes are the judge's, but that empty arrays have no element code.
+    equal_but_empty: u64,
     findings: Findings,
 }
 
@@ -235,6 +269,8 @@ impl Outside {
         }
         let mut out = vec![PATTERN; told.length as usize];
         ours::write(table, &mut out);
+        let mut untold = table.clone();
+        untold.untell(|| true);
         let mut theirs = Vec::new();
         match original::try_write(table, &mut theirs) {
             Ok(()) if theirs == out => self.equal += 1,
@@ -243,10 +279,21 @@ impl Outside {
                 match ours::read_whole(&theirs) {
                     (told, _) if !told.is_success() => self.unread += 1,
                     (_, back) if back == *table => self.read_same += 1,
+                    (_, back) if back == untold => self.read_untold += 1,
                     _ => self.read_other += 1,
                 }
             }
             Err(Trouble::Panic(_)) => self.panics += 1,
+        }
+        if domain::is_equal_but_empty(table) {
+            self.equal_but_empty += 1;
+            let mut due = Vec::new();
+            forms::write(&untold, &mut AsWritten, &mut due);
+            if theirs != due {
+                self.findings.note("the crate's bytes, but for empty arrays", table.words.len(), || {
+                    format!("`{table}`: {}, the judge writes {}", hex(&theirs), hex(&due))
+                });
+            }
         }
         let mut due = Vec::new();
         forms::write(table, &mut AsWritten, &mut due);
@@ -260,20 +307,28 @@ impl Outside {
         }
     }
 
-    fn print(&self, rows: usize) {
-        println!("Of at most {rows} rows and outside the domain, differences 1 to 5 and 7:\n");
-        let of = |what: &str, count| vec![what.to_string(), report::number(count)];
+    /// Prints those of at most so many rows, and those of a few rows with empty arrays.
+    fn print(rows: usize, all: &Outside, empty: &Outside) {
+        println!("Of at most {rows} rows and outside the domain, differences 1 to 5 and 7; and of at most {FEW} rows, with empty arrays that tell each of the 25 kinds:\n");
+        let of = |what: &str, count: fn(&Outside) -> u64| {
+            vec![what.to_string(), report::number(count(all)), report::number(count(empty))]
+        };
         report::table(
             1,
-            &["outside the domain", "tables"],
+            &["outside the domain", &format!("at most {rows} rows"), &format!("at most {FEW} rows, empty arrays")],
             &[
-                of("we refuse", self.refused),
-                of("both write the same", self.equal),
-                of("the crate writes other bytes", self.differ),
-                of("of these we read to that table", self.read_same),
-                of("to another", self.read_other),
-                of("and refuse", self.unread),
-                of("the crate panics", self.panics),
+                of("we refuse", |o| o.refused),
+                of("both write the same", |o| o.equal),
+                of("the crate writes other bytes", |o| o.differ),
+                of("of these we read to that table", |o| o.read_same),
+                of("to that table, but that its empty arrays tell no kind", |o| o.read_untold),
+                of("to another", |o| o.read_other),
+                of("and refuse", |o| o.unread),
+                of("the crate panics", |o| o.panics),
+                of(
+                    "inside the domain but for empty arrays: the crate writes what the judge writes with `e0 01 00` for these",
+                    |o| o.equal_but_empty,
+                ),
             ],
         );
     }

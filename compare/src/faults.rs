@@ -8,14 +8,28 @@ use crate::{
     ours::{self, Told, PATTERN},
     random::Random,
     report,
-    table::{Kind, Table},
+    table::{array, count_in, kind_in, Kind, Table},
 };
+
+/// What is refused of arrays: the number, and what of it is counted.
+const OF_ARRAYS: [(usize, &str); 7] = [
+    (4, "an element unlike what its array tells"),
+    (4, "an array that tells null"),
+    (5, "an array of more than 1,048,576 elements"),
+    (5, "an array with elements that tells no kind"),
+    (5, "an empty array that tells no kind"),
+    (5, "an array that tells what is none of the 25 kinds, below 256"),
+    (5, "an array that tells what is none of the 25 kinds, from 256 on"),
+];
 
 pub struct Judge {
     random: Random,
     tables: Generator,
+    all: u64,
     numbers: [u64; 15],
+    of_arrays: [u64; OF_ARRAYS.len()],
     nested: u64,
+    empty: u64,
     table: Table,
     due: Vec<u8>,
     out: Vec<u8>,
@@ -27,8 +41,11 @@ impl Judge {
         Judge {
             random: Random::new(seed ^ 0x5a),
             tables: Generator::all(!seed),
+            all: 0,
             numbers: [0; 15],
+            of_arrays: [0; OF_ARRAYS.len()],
             nested: 0,
+            empty: 0,
             table: Table::default(),
             due: Vec::new(),
             out: Vec::new(),
@@ -36,9 +53,46 @@ impl Judge {
         }
     }
 
-    /// The next table: sizing and writing answer what is due, and a refusal touches nothing.
+    /// The next random table.
     pub fn next(&mut self) {
         self.make();
+        self.hold();
+    }
+
+    /// Arrays whose numbers tell all sorts of counts and kinds: bare, in a list, and in an array that tells arrays or lists. Behind each there is nothing, or
+    /// as many elements as it has, of the kind that it tells or ubytes.
+    pub fn each_array(&mut self) {
+        let counts = [0, 1, 2, MOST, MOST + 1, u32::MAX as u64];
+        let kinds = (0..0x200).chain((9..32).map(|bit| 1 << bit | Kind::Uint as u64)).chain([u32::MAX as u64]);
+        for (kind, count) in kinds.flat_map(|kind| counts.map(|count| (kind, count))) {
+            for around in [None, Some((Kind::List, 1)), Some(array(Kind::Array, 1)), Some(array(Kind::List, 1))] {
+                for element in [None, Kind::of(kind), Some(Kind::Ubyte)] {
+                    self.table.clear();
+                    if let Some((outer, number)) = around {
+                        self.table.row(outer, number);
+                    }
+                    self.table.words.extend([Kind::Array as u64, kind << 32 | count]);
+                    for _ in 0..if count <= 2 { count } else { 0 } {
+                        element.into_iter().for_each(|kind| self.plain(kind));
+                    }
+                    self.hold();
+                }
+            }
+        }
+    }
+
+    /// A value of a kind, as plain as can be.
+    fn plain(&mut self, kind: Kind) {
+        match kind {
+            Kind::Decimal128 | Kind::Uuid => self.table.sixteen(kind, &[0; 16]),
+            Kind::Described => self.table.row(kind, 2).row(Kind::Ulong, 0).row(Kind::Null, 0),
+            _ => self.table.compound(kind, 0, Kind::Ubyte),
+        };
+    }
+
+    /// Sizing and writing answer what is due, and a refusal touches nothing.
+    fn hold(&mut self) {
+        self.all += 1;
         let refused = domain::refusal(&self.table);
         self.due.clear();
         let due = match refused {
@@ -52,7 +106,9 @@ impl Judge {
             }
         };
         self.numbers[due.number as usize] += 1;
+        self.of_arrays(&due);
         self.nested += self.table.is_nested() as u64;
+        self.empty += self.table.has_empty_array() as u64;
         self.out.clear();
         self.out.resize(due.length as usize + 8, PATTERN);
         let (sized, written) = (ours::size(&self.table), ours::write(&self.table, &mut self.out));
@@ -63,6 +119,24 @@ impl Judge {
             let table = &self.table;
             self.findings.note("a table with faults", table.words.len(), || format!("`{table}`: {sized}, due is {due}"));
         }
+    }
+
+    /// Counts what is refused of arrays.
+    fn of_arrays(&mut self, due: &Told) {
+        let row = 2 * due.place as usize;
+        let Some(&[kind, number]) = self.table.words.get(row..row + 2) else { return };
+        let array = kind == Kind::Array as u64;
+        let which = match (due.number, kind_in(number), count_in(number)) {
+            (4, told, _) if array && told == Kind::Null as u64 => 1,
+            (4, ..) => 0,
+            (5, _, count) if array && count > MOST => 2,
+            (5, 0, 1..) if array => 3,
+            (5, 0, _) if array => 4,
+            (5, ..=0xff, _) if array => 5,
+            (5, ..) if array => 6,
+            _ => return,
+        };
+        self.of_arrays[which] += 1;
     }
 
     /// A random table, mostly with a fault or two.
@@ -87,23 +161,54 @@ impl Judge {
         self.table.clear();
         let kinds = self.random.of(&[&[Kind::List][..], &[Kind::Array], &[Kind::List, Kind::Array], &[Kind::Array, Kind::Map]]);
         let levels = self.random.within(LEVELS as usize - 3, LEVELS as usize + 2);
+        let last = self.random.of(&[Kind::Null, Kind::Ubyte, Kind::List, Kind::Array, Kind::Map, Kind::Described]);
         for level in 0..levels {
             let kind = kinds[level % kinds.len()];
-            self.table.row(kind, if kind == Kind::Map { 2 } else { 1 });
+            let next = if level + 1 < levels { kinds[(level + 1) % kinds.len()] } else { last };
+            // arrays cannot hold nulls and described values: before such a one the array mostly tells another kind
+            let told = if next.is_element() || self.random.once_in(3) { next } else { Kind::Ubyte };
+            self.table.compound(kind, if kind == Kind::Map { 2 } else { 1 }, told);
             if kind == Kind::Map {
                 self.table.row(Kind::Null, 0);
             }
         }
-        let last = self.random.of(&[Kind::Null, Kind::Ubyte, Kind::List, Kind::Array, Kind::Map, Kind::Described]);
-        let number = self.random.below(3) as u64;
-        self.table.row(last, number);
+        let (number, told) = (self.random.below(3) as u64, self.random.of(&Kind::ALL));
+        self.table.compound(last, number, told);
         if self.random.once_in(3) {
             self.hurt();
         }
     }
 
+    /// One change of what an array's number tells; false where there is no array.
+    fn hurt_array(&mut self) -> bool {
+        let words = &mut self.table.words;
+        let arrays: Vec<_> = (0..words.len() / 2).filter(|row| words[2 * row] == Kind::Array as u64).collect();
+        if arrays.is_empty() {
+            return false;
+        }
+        let row = 2 * self.random.of(&arrays);
+        let (kind, count) = (kind_in(words[row + 1]), count_in(words[row + 1]));
+        let counts = [0, 1, 2, 255, 256, MOST, MOST + 1, 1 << 31, u32::MAX as u64];
+        let (kind, count) = match self.random.below(10) {
+            0 => (kind, count + 1),
+            1 => (kind, count.saturating_sub(1)),
+            2 => (kind, self.random.of(&counts)),
+            3 | 4 => (self.random.of(&Kind::ALL) as u64, count),
+            5 => (0, count),
+            6 => (Kind::Null as u64, count),
+            7 => (self.random.of(&[0x01, 0x41, 0x45, 0x52, 0x54, 0xa1, 0xc0, 0xe0, 0xff]), count),
+            8 => (kind | 0x100 << self.random.below(24), count),
+            _ => (self.random.of(&[0, Kind::Null as u64, Kind::Array as u64, 0x52, 0x170]), self.random.of(&counts)),
+        };
+        words[row + 1] = kind << 32 | count;
+        true
+    }
+
     /// One change at one place.
     fn hurt(&mut self) {
+        if self.random.once_in(3) && self.hurt_array() {
+            return;
+        }
         let Table { words, text } = &mut self.table;
         if words.len() < 2 {
             return;
@@ -135,17 +240,19 @@ impl Judge {
         }
     }
 
-    pub fn print(&self, tables: u64) {
-        let of = |what: String, count| vec![what, report::number(count)];
-        let refused = (1..=6).map(|n| of(format!("refused with {n}"), self.numbers[n]));
-        let rows: Vec<_> = [
-            of("tables".into(), tables),
-            of("with arrays of lists, maps or arrays".into(), self.nested),
-            of("accepted".into(), self.numbers[0]),
-        ]
-        .into_iter()
-        .chain(refused)
-        .collect();
+    pub fn print(&self) {
+        let of = |what: &str, count| vec![what.to_string(), report::number(count)];
+        let mut rows = vec![
+            of("tables", self.all),
+            of("with arrays of lists, maps or arrays", self.nested),
+            of("with empty arrays", self.empty),
+            of("accepted", self.numbers[0]),
+        ];
+        for number in 1..=6 {
+            rows.push(of(&format!("refused with {number}"), self.numbers[number]));
+            let parts = OF_ARRAYS.iter().zip(self.of_arrays).filter(|((refusal, _), _)| *refusal == number);
+            rows.extend(parts.map(|((_, what), count)| of(&format!("of these {what}"), count)));
+        }
         report::table(1, &["tables with faults", "number"], &rows);
         println!("For each: sizing and writing answer what the judge's own checks answer, number and place, and a refusal leaves the output as it was.\n");
     }

@@ -24,6 +24,18 @@ impl Findings {
         }
     }
 
+    /// Takes in what was found elsewhere.
+    pub fn add(&mut self, other: Findings) {
+        for (what, found) in other.found {
+            let own = self.found.entry(what).or_insert(Found { count: 0, size: usize::MAX, example: String::new() });
+            own.count += found.count;
+            if found.size < own.size {
+                own.size = found.size;
+                own.example = found.example;
+            }
+        }
+    }
+
     pub fn is_empty(&self) -> bool {
         self.found.is_empty()
     }

@@ -14,8 +14,6 @@ pub trait Choice {
     fn value(&mut self, codes: &[u8]) -> u8;
     /// Of the codes of an array's elements, in the same order.
     fn element(&mut self, codes: &[u8]) -> u8;
-    /// The element code of an empty array, if it has one.
-    fn empty(&mut self) -> Option<u8>;
 }
 
 /// As we have to write: values as short as can be, elements as wide as can be.
@@ -31,20 +29,10 @@ impl Choice for AsWritten {
     fn element(&mut self, codes: &[u8]) -> u8 {
         codes[codes.len() - 1]
     }
-
-    fn empty(&mut self) -> Option<u8> {
-        None
-    }
 }
 
 /// Any form that we have to read.
 pub struct AnyForm(pub Random);
-
-/// The codes that may stand for elements.
-const ELEMENT_CODES: [u8; 33] = [
-    0x50, 0x51, 0x52, 0x53, 0x54, 0x55, 0x56, 0x60, 0x61, 0x70, 0x71, 0x72, 0x73, 0x74, 0x80, 0x81, 0x82, 0x83, 0x84, 0x94, 0x98,
-    0xa0, 0xa1, 0xa3, 0xb0, 0xb1, 0xb3, 0xc0, 0xc1, 0xd0, 0xd1, 0xe0, 0xf0,
-];
 
 impl Choice for AnyForm {
     const SHORT_TEXT: u64 = 255;
@@ -56,13 +44,16 @@ impl Choice for AnyForm {
     fn element(&mut self, codes: &[u8]) -> u8 {
         self.0.of(codes)
     }
+}
 
-    fn empty(&mut self) -> Option<u8> {
-        self.0.once_in(2).then(|| self.0.of(&ELEMENT_CODES))
+impl AnyForm {
+    /// Has some of a table's empty arrays tell no kind: we read such tables too.
+    pub fn untell(&mut self, table: &mut Table) {
+        table.untell(|| self.0.once_in(3));
     }
 }
 
-/// Appends the bytes of a table that we accept.
+/// Appends the bytes of a table that we accept or read.
 pub fn write(table: &Table, choice: &mut impl Choice, out: &mut Vec<u8>) {
     value(&mut Rows::of(table), choice, out);
 }
@@ -75,36 +66,52 @@ fn value<C: Choice>(rows: &mut Rows, choice: &mut C, out: &mut Vec<u8>) {
     payload(code, &row, &body, out);
 }
 
-/// The bytes of a row's children, if it has any.
+/// The bytes of a row's children, if it has any, and of an array its element code.
 fn body(row: &Row, rows: &mut Rows, choice: &mut impl Choice) -> Vec<u8> {
     let mut body = Vec::new();
     match row.kind {
-        Kind::List | Kind::Map | Kind::Described => (0..row.number).for_each(|_| value(rows, choice, &mut body)),
-        Kind::Array if row.number == 0 => body.extend(choice.empty()),
-        Kind::Array => elements(row.number, rows, choice, &mut body),
-        _ => {}
+        Kind::Array => elements(row, rows, choice, &mut body),
+        _ => (0..row.children()).for_each(|_| value(rows, choice, &mut body)),
     }
     body
 }
 
-/// One code that fits all elements and has a payload, and then the payloads.
-fn elements<C: Choice>(count: u64, rows: &mut Rows, choice: &mut C, out: &mut Vec<u8>) {
-    let items: Vec<_> = (0..count)
+/// One code, of the kind that the array tells, which fits all elements and has a payload; and then the payloads. Nothing where an empty array tells no kind.
+fn elements<C: Choice>(array: &Row, rows: &mut Rows, choice: &mut C, out: &mut Vec<u8>) {
+    let Some(kind) = array.element() else { return };
+    let items: Vec<_> = (0..array.children())
         .map(|_| {
             let row = rows.next().expect("the array is whole");
             let body = body(&row, rows, choice);
             (row, body)
         })
         .collect();
-    let mut fit = codes::<C>(&items[0].0, items[0].1.len());
-    fit.retain(|code| code & 0xf0 != 0x40);
-    for (row, body) in &items[1..] {
+    let mut fit = element_codes(kind);
+    for (row, body) in &items {
         let own = codes::<C>(row, body.len());
         fit.retain(|code| own.contains(code));
     }
     let code = choice.element(&fit);
     out.push(code);
     items.iter().for_each(|(row, body)| payload(code, row, body, out));
+}
+
+/// The codes of a kind that have a payload, the short one first where there is one.
+fn element_codes(kind: Kind) -> Vec<u8> {
+    let short = match kind {
+        Kind::Uint => Some(0x52),
+        Kind::Ulong => Some(0x53),
+        Kind::Int => Some(0x54),
+        Kind::Long => Some(0x55),
+        Kind::Binary => Some(0xa0),
+        Kind::String => Some(0xa1),
+        Kind::Symbol => Some(0xa3),
+        Kind::List => Some(0xc0),
+        Kind::Map => Some(0xc1),
+        Kind::Array => Some(0xe0),
+        _ => None,
+    };
+    short.into_iter().chain([kind as u8]).collect()
 }
 
 /// The codes that a row can be written with, from the shortest form to the widest.
@@ -138,8 +145,8 @@ fn payload(code: u8, row: &Row, body: &[u8], out: &mut Vec<u8>) {
         0x8 => number(8, row.number),
         0xa => number(1, row.number),
         0xb => number(4, row.number),
-        0xc | 0xe => [body.len() as u64 + 1, row.number].into_iter().for_each(|n| number(1, n)),
-        0xd | 0xf => [body.len() as u64 + 4, row.number].into_iter().for_each(|n| number(4, n)),
+        0xc | 0xe => [body.len() as u64 + 1, row.children()].into_iter().for_each(|n| number(1, n)),
+        0xd | 0xf => [body.len() as u64 + 4, row.children()].into_iter().for_each(|n| number(4, n)),
         _ => {}
     }
     out.extend_from_slice(row.text);

@@ -16,7 +16,7 @@ enum Spot {
 
 pub struct Generator {
     random: Random,
-    /// Whether tables stay in the domain of equality, where no array holds lists, maps or arrays.
+    /// Whether tables stay in the domain of equality, where no array is empty or holds lists, maps or arrays.
     equal: bool,
     table: Table,
     /// Rows that lists and maps may still ask for.
@@ -76,10 +76,8 @@ impl Generator {
             8 if !last && spot == Spot::Any => self.array(level),
             9 if !last && self.random.once_in(12) => self.edge_compound(level, spot),
             10 => {
-                let empty: &[Kind] =
-                    if spot == Spot::Any { &[Kind::List, Kind::Map, Kind::Array] } else { &[Kind::List, Kind::Map] };
-                let kind = self.random.of(empty);
-                self.table.row(kind, 0);
+                let kind = self.random.of(if self.equal { &[Kind::List, Kind::Map] } else { &Kind::COMPOUNDS[..] });
+                self.empty(kind);
             }
             _ => self.leaf_row(spot),
         }
@@ -127,9 +125,12 @@ impl Generator {
         }
         let count = self.random.of(&[1, 1, 1, 2, 3]);
         let turn = self.random.below(count);
-        self.table.row(kind, count as u64);
         // an array's elements are of one kind; at the end of the chain they have no children
         let inner = self.inner(kind, level + 1, deepest);
+        match inner {
+            Some(inner) => self.table.array(inner, count as u64),
+            None => self.table.row(kind, count as u64),
+        };
         for i in 0..count {
             match inner {
                 Some(inner) if level + 1 == deepest => self.leaf(inner, true),
@@ -242,18 +243,19 @@ impl Generator {
             return self.compound_array(level);
         }
         let kind = self.random.of(&Kind::SCALARS);
+        let least = self.equal as usize;
         let count = match self.random.below(12) {
-            0 => 0,
+            0 => least,
             1 => 1,
             2 => self.random.within(252, 257),
             3 => self.edge_count(kind),
-            _ => self.random.below(8),
+            _ => self.random.within(least, 7),
         };
         self.scalars(kind, count);
     }
 
     fn scalars(&mut self, kind: Kind, count: usize) {
-        self.table.row(Kind::Array, count as u64);
+        self.table.array(kind, count as u64);
         for _ in 0..count {
             self.leaf(kind, true);
         }
@@ -267,7 +269,7 @@ impl Generator {
             1 => self.random.within(28, 34),
             _ => self.random.within(1, 5),
         };
-        self.table.row(Kind::Array, count as u64);
+        self.table.array(kind, count as u64);
         for _ in 0..count {
             self.compound_element(kind, level + 1);
         }
@@ -277,7 +279,7 @@ impl Generator {
         match (self.random.below(12), kind) {
             _ if level == LEVELS => self.empty(kind),
             (0, _) | (1..=2, Kind::List | Kind::Map) => self.empty(kind),
-            (3, _) if self.random.once_in(8) => self.edge_of(kind),
+            (3, _) if self.random.once_in(8) => self.edge_of(kind, level),
             (4..=7, Kind::Array) => self.compound_array(level),
             (_, Kind::Array) => {
                 let (kind, count) = (self.random.of(&Kind::SCALARS), self.random.within(1, 5));
@@ -287,15 +289,22 @@ impl Generator {
         }
     }
 
+    /// An empty list or map, or an empty array of any kind of elements.
     fn empty(&mut self, kind: Kind) {
-        self.table.row(kind, 0);
+        match kind {
+            Kind::Array => {
+                let kind = self.random.of(&Kind::ELEMENTS);
+                self.table.array(kind, 0)
+            }
+            _ => self.table.row(kind, 0),
+        };
     }
 
     /// More small compounds than the writer keeps the sizes of beside the output, most of them elements.
     fn many(&mut self) {
         let kind = self.random.of(&Kind::COMPOUNDS);
         let count = self.random.within(200, 400);
-        self.table.row(Kind::Array, count as u64);
+        self.table.array(kind, count as u64);
         for _ in 0..count {
             self.rows = 4;
             self.compound_element(kind, 2);
@@ -317,21 +326,29 @@ impl Generator {
         if level == LEVELS {
             return self.leaf_row(spot);
         }
-        let form = self.random.below(if spot == Spot::Any { 5 } else { 3 });
+        let forms = match spot {
+            Spot::Key if self.equal => 3,
+            _ if self.equal => 5,
+            _ if level + 1 == LEVELS => 6,
+            _ => 7,
+        };
+        let form = self.random.below(forms);
         self.edge_form(form, body);
     }
 
     /// The same, of a kind.
-    fn edge_of(&mut self, kind: Kind) {
+    fn edge_of(&mut self, kind: Kind, level: u32) {
         let body = self.random.within(252, 258);
         let form = match kind {
-            Kind::List => self.random.below(2),
+            Kind::List => self.random.of(&[0, 1, 5]),
             Kind::Map => 2,
-            _ => self.random.within(3, 4),
+            _ if level + 1 == LEVELS => self.random.of(&[3, 4]),
+            _ => self.random.of(&[3, 4, 6]),
         };
         self.edge_form(form, body);
     }
 
+    /// The last form, which takes three levels, and the one before it have empty arrays in them.
     fn edge_form(&mut self, form: usize, body: usize) {
         match form {
             0 => {
@@ -356,14 +373,32 @@ impl Generator {
                 self.text(Kind::String, body - key - 4, false);
             }
             3 => {
-                self.table.row(Kind::Array, body as u64 - 1);
+                self.table.array(Kind::Ubyte, body as u64 - 1);
                 for _ in 1..body {
                     self.leaf(Kind::Ubyte, true);
                 }
             }
-            _ => {
-                self.table.row(Kind::Array, 1);
+            4 => {
+                self.table.array(Kind::Symbol, 1);
                 self.text(Kind::Symbol, body - 5, true);
+            }
+            5 => {
+                // empty arrays of four bytes, then a text with a head of two bytes
+                let arrays = self.random.within(1, 60);
+                self.table.row(Kind::List, arrays as u64 + 1);
+                for _ in 0..arrays {
+                    self.empty(Kind::Array);
+                }
+                self.text(Kind::Binary, body - 4 * arrays - 2, false);
+            }
+            _ => {
+                // behind the element code, empty arrays of nine bytes and one with that many and its elements
+                let arrays = self.random.within(1, 26);
+                self.table.array(Kind::Array, arrays as u64 + 1);
+                for _ in 0..arrays {
+                    self.empty(Kind::Array);
+                }
+                self.scalars(Kind::Ubyte, body - 9 * arrays - 10);
             }
         }
     }
@@ -381,7 +416,7 @@ impl Generator {
                 self.text(kind, length, false);
             }
             _ => {
-                self.table.row(Kind::Array, 1);
+                self.table.array(kind, 1);
                 self.text(kind, length, true);
             }
         }

@@ -1,9 +1,10 @@
 //! A table through the writer of the ported crate.
 //!
 //! The crate is handed the very rows that our writer is handed, one by one: lists, arrays and maps with `None` as their
-//! length, since it reserves memory by the length that it is told.
+//! length, since it reserves memory by the length that it is told. The kind that an array tells has no place there: the
+//! crate goes by the elements.
 
-use crate::table::{Kind, Row, Rows, Table};
+use crate::table::{count_in, Kind, Row, Rows, Table};
 use original::{names, ser::Serializer};
 use serde::ser::{self, Serialize, SerializeMap, SerializeSeq, SerializeStruct};
 use std::{cell::Cell, fmt, panic};
@@ -92,7 +93,7 @@ impl Serialize for Value<'_> {
             Kind::String => to.serialize_str(utf8(text)),
             Kind::Symbol => to.serialize_newtype_struct(names::SYMBOL, utf8(text)),
             Kind::List => Items { of: *self, count: number }.serialize(to),
-            Kind::Array => to.serialize_newtype_struct(names::ARRAY, &Items { of: *self, count: number }),
+            Kind::Array => to.serialize_newtype_struct(names::ARRAY, &Items { of: *self, count: count_in(number) }),
             Kind::Map => {
                 let mut map = to.serialize_map(None)?;
                 for _ in 0..number / 2 {

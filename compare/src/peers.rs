@@ -2,12 +2,14 @@
 
 use crate::{
     damage::Damage,
+    domain,
+    equal::by_kind,
     findings::Findings,
     generate::Generator,
     ours::{self, Told},
     proton::{Data, NODES},
     report, small,
-    table::{hex, Kind, Row, Rows, Table},
+    table::{array, hex, Kind, Row, Rows, Table},
 };
 
 pub struct Plan {
@@ -17,7 +19,7 @@ pub struct Plan {
 
 /// In which the two are known to part, and who is right by Part 1.
 const KNOWN: [(&str, &str); 16] = [
-    (EMPTY_ARRAY, "Proton: an array has an element code even so"),
+    (NO_CODE, "Proton: an array has an element code even so. We read these and do not write them"),
     (DESCRIPTOR, "we: a descriptor may be any value"),
     (LAYERS, "we: behind the inner described value Proton loses its place"),
     ("accepts a boolean byte above 01", "we: only 00 and 01"),
@@ -38,7 +40,7 @@ const KNOWN: [(&str, &str); 16] = [
     ("accepts more than 32 levels", "Proton; the limit is our own choice"),
 ];
 const ODD_MAP: &str = "accepts a map with an odd count";
-const EMPTY_ARRAY: &str = "refuses an empty array without element code";
+const NO_CODE: &str = "refuses an empty array without element code";
 const DESCRIPTOR: &str = "refuses a list, map, array or described value as descriptor";
 const LAYERS: &str = "reads another value: described values in one another, and more behind them";
 
@@ -54,8 +56,13 @@ pub fn run(plan: &Plan) -> bool {
     for _ in 0..plan.random {
         judge.try_table(tables.table());
     }
-    small::each(4, &small::ALPHABET, &mut |table| judge.try_table(table));
-    small::each(7, &small::ALPHABET[..1], &mut |table| judge.try_table(table));
+    small::each(4, &small::ALPHABET, &small::EMPTY, &mut |table| judge.try_table(table));
+    small::each(7, &small::ALPHABET[..1], &small::EMPTY[..1], &mut |table| judge.try_table(table));
+    small::each(3, &small::ALPHABET, &Kind::ELEMENTS, &mut |table| {
+        if table.has_empty_array() {
+            judge.try_table(table);
+        }
+    });
 
     each_run(5, &ALPHABET, &mut |bytes| judge.try_bytes(bytes));
     each_run(6, &SMALL_ALPHABET, &mut |bytes| judge.try_bytes(bytes));
@@ -74,22 +81,27 @@ pub fn run(plan: &Plan) -> bool {
     judge.all_known()
 }
 
-/// Arrays of lists, maps and arrays, to be seen both ways.
-const SHOWN: [&[(Kind, u64)]; 9] = [
-    &[(Kind::Array, 2), (Kind::List, 0), (Kind::List, 0)],
-    &[(Kind::Array, 2), (Kind::List, 1), (Kind::Null, 0), (Kind::List, 0)],
-    &[(Kind::Array, 1), (Kind::List, 1), (Kind::List, 1), (Kind::Null, 0)],
-    &[(Kind::Array, 2), (Kind::Map, 2), (Kind::Ubyte, 1), (Kind::Ubyte, 2), (Kind::Map, 0)],
-    &[(Kind::Array, 2), (Kind::Array, 1), (Kind::Ubyte, 7), (Kind::Array, 1), (Kind::Byte, 8)],
-    &[(Kind::Array, 1), (Kind::Array, 1), (Kind::Array, 1), (Kind::Ushort, 1)],
-    &[(Kind::Array, 1), (Kind::Array, 0)],
-    &[(Kind::Array, 2), (Kind::Array, 0), (Kind::Array, 0)],
-    &[(Kind::Array, 2), (Kind::Array, 1), (Kind::Ubyte, 7), (Kind::Array, 0)],
+/// Empty arrays, and arrays of lists, maps and arrays, to be seen both ways.
+const SHOWN: [&[(Kind, u64)]; 11] = [
+    &[array(Kind::Uint, 0)],
+    &[array(Kind::List, 0)],
+    &[array(Kind::List, 2), (Kind::List, 0), (Kind::List, 0)],
+    &[array(Kind::List, 2), (Kind::List, 1), (Kind::Null, 0), (Kind::List, 0)],
+    &[array(Kind::List, 1), (Kind::List, 1), (Kind::List, 1), (Kind::Null, 0)],
+    &[array(Kind::Map, 2), (Kind::Map, 2), (Kind::Ubyte, 1), (Kind::Ubyte, 2), (Kind::Map, 0)],
+    &[array(Kind::Array, 2), array(Kind::Ubyte, 1), (Kind::Ubyte, 7), array(Kind::Byte, 1), (Kind::Byte, 8)],
+    &[array(Kind::Array, 1), array(Kind::Array, 1), array(Kind::Ushort, 1), (Kind::Ushort, 1)],
+    &[array(Kind::Array, 1), array(Kind::Ubyte, 0)],
+    &[array(Kind::Array, 2), array(Kind::Uint, 0), array(Kind::String, 0)],
+    &[array(Kind::Array, 2), array(Kind::Ubyte, 1), (Kind::Ubyte, 7), array(Kind::Map, 0)],
 ];
 
 /// Such arrays in forms that we do not write.
-const SHOWN_BYTES: [&[u8]; 9] = [
+const SHOWN_BYTES: [&[u8]; 12] = [
+    &[0xe0, 0x01, 0x00],
+    &[0xe0, 0x02, 0x00, 0x52],
     &[0xe0, 0x02, 0x00, 0xc0],
+    &[0xe0, 0x02, 0x00, 0x40],
     &[0xe0, 0x06, 0x02, 0xc0, 0x01, 0x00, 0x01, 0x00],
     &[0xe0, 0x08, 0x02, 0xc0, 0x02, 0x01, 0x40, 0x02, 0x01, 0x40],
     &[0xe0, 0x09, 0x01, 0xc1, 0x06, 0x02, 0xa3, 0x01, 0x76, 0x52, 0x02],
@@ -102,7 +114,9 @@ const SHOWN_BYTES: [&[u8]; 9] = [
 
 /// Prints what both do with them.
 fn show(data: &mut Data) {
-    println!("Arrays of lists, maps and arrays, as both write them, and as each reads what the other writes:\n");
+    println!(
+        "Empty arrays, and arrays of lists, maps and arrays, as both write them, and as each reads what the other writes:\n"
+    );
     let rows: Vec<_> = SHOWN
         .iter()
         .map(|rows| {
@@ -173,6 +187,10 @@ struct Judge {
     /// The same of those with an array of lists, maps or arrays.
     nested: u64,
     nested_read_by: u64,
+    /// The same of those with an empty array, and all empty arrays of those, by what they tell.
+    empty: u64,
+    empty_read_by: u64,
+    empty_arrays: [u64; 256],
     /// Of all tables: read by Proton, read from Proton, and with the same bytes.
     read_by: u64,
     read_from: u64,
@@ -193,6 +211,9 @@ impl Judge {
             plain_read_by: 0,
             nested: 0,
             nested_read_by: 0,
+            empty: 0,
+            empty_read_by: 0,
+            empty_arrays: [0; 256],
             read_by: 0,
             read_from: 0,
             same_bytes: 0,
@@ -208,23 +229,32 @@ impl Judge {
         if table.rows() > NODES || !told.is_success() {
             return;
         }
+        if !domain::is_table(table) {
+            return self
+                .findings
+                .note("we accept what the format refuses", table.words.len(), || format!("`{table}` | {told} |"));
+        }
         self.tables += 1;
         self.ours.resize(told.length as usize, 0);
         ours::write(table, &mut self.ours);
         let bytes = std::mem::take(&mut self.ours);
         let same = self.same_value(&bytes, table);
         self.read_by += same as u64;
-        if known_trouble(table).is_none() {
+        if known_trouble(table, true).is_none() {
             self.plain += 1;
             self.plain_read_by += same as u64;
             self.nested += table.is_nested() as u64;
             self.nested_read_by += (same && table.is_nested()) as u64;
+            self.empty += table.has_empty_array() as u64;
+            self.empty_read_by += (same && table.has_empty_array()) as u64;
+            let empty = table.arrays().filter(|(_, count)| *count == 0);
+            empty.for_each(|(kind, _)| self.empty_arrays[kind as usize & 0xff] += 1);
         }
         self.try_theirs(&bytes, table);
         self.ours = bytes;
     }
 
-    /// Whether Proton reads our bytes as the table that we wrote.
+    /// Whether Proton reads our bytes as the table that we wrote, with the same type of elements in each array.
     fn same_value(&mut self, bytes: &[u8], table: &Table) -> bool {
         let read = self.data.decode(bytes);
         let back = self.data.table();
@@ -232,7 +262,7 @@ impl Judge {
             return true;
         }
         let unknown = if read.is_ok() { "reads another value" } else { "refuses" };
-        self.findings.note(known_trouble(table).unwrap_or(unknown), bytes.len(), || {
+        self.findings.note(known_trouble(table, read.is_err()).unwrap_or(unknown), bytes.len(), || {
             let theirs = match (read, back) {
                 (Ok(_), Some(back)) => format!("`{back}`"),
                 (Ok(_), None) => "no value".into(),
@@ -292,16 +322,23 @@ impl Judge {
             &["what", "number"],
             &[
                 of("tables that both write", self.tables),
-                of("of these without the three that Proton does not read (below)", self.plain),
+                of("of these without the two that Proton does not read (below)", self.plain),
                 of("our bytes of these read by Proton to the same values", self.plain_read_by),
-                of("of these with arrays of lists, maps or arrays", self.nested),
+                of("without the two and with arrays of lists, maps or arrays", self.nested),
                 of("our bytes of these read by Proton to the same values", self.nested_read_by),
+                of("without the two and with empty arrays", self.empty),
+                of("our bytes of these read by Proton to the same values", self.empty_read_by),
                 of("our bytes of all read by Proton to the same values", self.read_by),
                 of("Proton's bytes read by us to the same values", self.read_from),
                 of("the same bytes from both (Proton writes lists, maps and arrays in their wide forms)", self.same_bytes),
                 of("runs of bytes, good and bad, that both read", self.runs),
                 of("both refuse, or both read the same values", self.agree),
             ],
+        );
+        println!("The same values: arrays, empty or not, also with the same type of elements (`pn_data_get_array_type`).");
+        println!(
+            "The empty arrays of the tables without the two, by what they tell: {}.\n",
+            by_kind(&Kind::ELEMENTS, &self.empty_arrays)
         );
         let rows: Vec<_> = self
             .findings
@@ -315,29 +352,27 @@ impl Judge {
     }
 }
 
-/// The first thing in a table that Proton is known not to read; nothing where it has to read it.
-fn known_trouble(table: &Table) -> Option<&'static str> {
+/// The first thing in a table that Proton is known not to read; nothing where it has to read it. The first of them is in no table that we write, and with
+/// it Proton refuses.
+fn known_trouble(table: &Table, refused: bool) -> Option<&'static str> {
     let mut rows = Rows::of(table);
-    let (mut empty_array, mut descriptor, mut layers) = (false, false, false);
-    while let Some(Row { kind, number, .. }) = rows.next() {
-        empty_array |= kind == Kind::Array && number == 0;
-        if kind == Kind::Described {
+    let (mut descriptor, mut layers) = (false, false);
+    while let Some(row) = rows.next() {
+        if row.kind == Kind::Described {
             let mut value = rows;
             descriptor |= skip(&mut value).is_some_and(|row| row.kind.has_children());
             layers |= value.next().is_some_and(|row| row.kind == Kind::Described);
         }
     }
-    let troubles = [(empty_array, EMPTY_ARRAY), (descriptor, DESCRIPTOR), (layers, LAYERS)];
+    let troubles = [(refused && table.untold().is_some(), NO_CODE), (descriptor, DESCRIPTOR), (layers, LAYERS)];
     troubles.into_iter().find(|(there, _)| *there).map(|(_, name)| name)
 }
 
 /// Passes over one value, and gives its first row.
 fn skip<'a>(rows: &mut Rows<'a>) -> Option<Row<'a>> {
     let first = rows.next()?;
-    if first.kind.has_children() {
-        for _ in 0..first.number {
-            skip(rows)?;
-        }
+    for _ in 0..first.children() {
+        skip(rows)?;
     }
     Some(first)
 }

@@ -48,7 +48,8 @@ impl Data {
     }
 
     fn put_value(&mut self, rows: &mut Rows) -> Result<(), Error> {
-        let Row { kind, number, text } = rows.next().expect("the table holds a whole value");
+        let row = rows.next().expect("the table holds a whole value");
+        let Row { kind, number, text } = row;
         let tree = self.tree();
         let result = unsafe {
             match kind {
@@ -76,11 +77,7 @@ impl Data {
                 Kind::List => raw::pn_data_put_list(tree),
                 Kind::Map => raw::pn_data_put_map(tree),
                 Kind::Described => raw::pn_data_put_described(tree),
-                Kind::Array => {
-                    // an empty array has a type here; a table does not tell which
-                    let first = if number > 0 { rows.clone().next().map(|row| row.kind) } else { None };
-                    raw::pn_data_put_array(tree, false, type_of(first.unwrap_or(Kind::Ubyte)))
-                }
+                Kind::Array => raw::pn_data_put_array(tree, false, type_of(row.element().expect("the array tells a kind"))),
             }
         };
         if result != 0 {
@@ -88,7 +85,7 @@ impl Data {
         }
         if kind.has_children() {
             unsafe { raw::pn_data_enter(tree) };
-            for _ in 0..number {
+            for _ in 0..row.children() {
                 self.put_value(rows)?;
             }
             unsafe { raw::pn_data_exit(tree) };
@@ -110,11 +107,12 @@ impl Data {
                 Kind::String => table.worded(kind, raw::pn_data_get_string(tree).slice()),
                 Kind::Symbol => table.worded(kind, raw::pn_data_get_symbol(tree).slice()),
                 Kind::Array if raw::pn_data_is_array_described(tree) => return None,
+                Kind::Array => table.array(kind_of(raw::pn_data_get_array_type(tree))?, self.number(kind)),
                 _ => table.row(kind, self.number(kind)),
             };
         }
         if kind.has_children() {
-            let count = table.words[table.words.len() - 1];
+            let count = self.number(kind);
             unsafe { raw::pn_data_enter(tree) };
             for _ in 0..count {
                 self.take_value(table)?;
@@ -124,7 +122,7 @@ impl Data {
         Some(())
     }
 
-    /// The number of the row that the tree stands at; 0 for a kind without one.
+    /// The number of the row that the tree stands at, of an array its count; 0 for a kind without one.
     fn number(&self, kind: Kind) -> u64 {
         let tree = self.tree();
         unsafe {
@@ -289,6 +287,7 @@ mod raw {
         pub fn pn_data_get_map(data: *mut Data) -> usize;
         pub fn pn_data_get_array(data: *mut Data) -> usize;
         pub fn pn_data_is_array_described(data: *mut Data) -> bool;
+        pub fn pn_data_get_array_type(data: *mut Data) -> c_int;
         // the byte that was read, which need not be a Rust `bool`
         pub fn pn_data_get_bool(data: *mut Data) -> u8;
         pub fn pn_data_get_ubyte(data: *mut Data) -> u8;

@@ -69,24 +69,25 @@ impl<'a> Reader<'a> {
             }
             Layout::Array(width) => {
                 let (count, at, end) = self.fields(width, place, at, end)?;
-                self.table.row(kind, count);
                 self.elements(count, place, at, end, level)
             }
             _ => self.scalar(kind, layout, place, at, end),
         }
     }
 
-    /// The body of an array: all that it holds is refused at one place.
+    /// The row of an array, which tells the kind of the element code or, without one, none; and its body. All that it holds is refused at one place.
     fn elements(&mut self, count: u64, place: usize, at: usize, end: usize, level: u32) -> Result<usize, Told> {
         need(count == 0 || level < LEVELS, 3, place)?;
         if at == end {
             need(count == 0, 9, place)?;
+            self.table.row(Kind::Array, 0);
             return Ok(end);
         }
         let code = self.bytes[at];
-        let (_, layout) = entry(code).ok_or(Told::refusal(10, place as u64))?;
+        let (kind, layout) = entry(code).ok_or(Told::refusal(10, place as u64))?;
         let payload = !matches!(layout, Layout::Constant(_) | Layout::Whole(0) | Layout::Described);
         need(payload, 4, place)?;
+        self.table.array(kind, count);
         let mut at = at + 1;
         for _ in 0..count {
             at = self.payload(code, place, at, end, level + 1, Some(place))?;

@@ -19,7 +19,7 @@ pub fn print(seed: u64) {
         }
     }
     let mut count = 0;
-    small::each(5, &small::ALPHABET, &mut |table| {
+    small::each(5, &small::ALPHABET, &[], &mut |table| {
         if domain::is_equal(table) {
             count += 1;
             if count % ONE_IN == 0 {

@@ -99,7 +99,7 @@ fn small_arrays() -> Table {
     let count = (ROWS - 1) / 4;
     table.row(Kind::List, count as u64);
     for i in 0..count {
-        table.row(Kind::Array, 3);
+        table.array([Kind::Ubyte, Kind::Uint, Kind::Symbol][i % 3], 3);
         for j in 0..3 {
             match i % 3 {
                 0 => table.row(Kind::Ubyte, j),
@@ -115,7 +115,7 @@ fn small_arrays() -> Table {
 fn pairs(kind: Kind) -> Table {
     const PAIRS: u64 = 20_000;
     let mut table = Table::default();
-    table.row(kind, PAIRS);
+    table.compound(kind, PAIRS, Kind::List);
     for i in 0..PAIRS {
         table.row(Kind::List, 2).row(Kind::Uint, i % 200).row(Kind::Uint, i % 1_000);
     }
@@ -126,10 +126,11 @@ fn pairs(kind: Kind) -> Table {
 fn array_chains(length: usize, kinds: &[Kind]) -> Table {
     let mut table = Table::default();
     let count = (ROWS - 1) / (length + 1);
-    table.row(Kind::Array, count as u64);
+    let kind = |level: usize| if level < length { kinds[level % kinds.len()] } else { Kind::Uint };
+    table.array(kind(0), count as u64);
     for i in 0..count {
         for level in 0..length {
-            table.row(kinds[level % kinds.len()], 1);
+            table.compound(kind(level), 1, kind(level + 1));
         }
         table.row(Kind::Uint, i as u64 % 200);
     }

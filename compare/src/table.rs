@@ -54,6 +54,12 @@ impl Kind {
     /// The three kinds of elements with children.
     pub const COMPOUNDS: [Kind; 3] = [List, Map, Array];
 
+    /// All 23 kinds of elements.
+    pub const ELEMENTS: [Kind; 23] = [
+        Ubyte, Byte, Boolean, Ushort, Short, Uint, Int, Float, Char, Decimal32, Ulong, Long, Double, Timestamp, Decimal64,
+        Decimal128, Uuid, Binary, String, Symbol, List, Map, Array,
+    ];
+
     pub fn is_element(self) -> bool {
         !matches!(self, Described | Null)
     }
@@ -74,6 +80,16 @@ impl Kind {
         matches!(self, Described | List | Map | Array)
     }
 
+    /// The children of a row.
+    #[inline]
+    pub fn children(self, number: u64) -> u64 {
+        match self {
+            Described | List | Map => number,
+            Array => count_in(number),
+            _ => 0,
+        }
+    }
+
     /// The bytes of text of a row.
     pub fn text(self, number: u64) -> usize {
         match self {
@@ -82,6 +98,29 @@ impl Kind {
             _ => 0,
         }
     }
+}
+
+/// The number of an array's row is its count, and the kind of its elements times this (2.6).
+const KIND_UNIT: u64 = 1 << 32;
+
+pub const fn array_number(kind: Kind, count: u64) -> u64 {
+    count + KIND_UNIT * kind as u64
+}
+
+/// The row of an array of so many elements of a kind.
+pub const fn array(kind: Kind, count: u64) -> (Kind, u64) {
+    (Array, array_number(kind, count))
+}
+
+/// The count in the number of an array's row.
+#[inline]
+pub fn count_in(number: u64) -> u64 {
+    number % KIND_UNIT
+}
+
+/// The kind that it tells: any word of 32 bits, and 0 where none is told.
+pub fn kind_in(number: u64) -> u64 {
+    number / KIND_UNIT
 }
 
 #[derive(Clone, Debug, Default, PartialEq, Eq)]
@@ -101,6 +140,19 @@ impl Table {
         self
     }
 
+    /// The row of an array of so many elements of a kind.
+    pub fn array(&mut self, kind: Kind, count: u64) -> &mut Self {
+        self.row(Array, array_number(kind, count))
+    }
+
+    /// The row of a list or map, or of an array of such elements.
+    pub fn compound(&mut self, kind: Kind, count: u64, element: Kind) -> &mut Self {
+        match kind {
+            Array => self.array(element, count),
+            _ => self.row(kind, count),
+        }
+    }
+
     /// A row of binary, string or symbol.
     pub fn worded(&mut self, kind: Kind, text: &[u8]) -> &mut Self {
         self.text.extend_from_slice(text);
@@ -117,23 +169,44 @@ impl Table {
         self.words.len() / 2
     }
 
-    /// The kinds of the elements of each array that is not empty: that of the row behind the array's own.
-    pub fn elements(&self) -> impl Iterator<Item = u64> + '_ {
-        let pairs = self.words.chunks(2).zip(self.words.chunks(2).skip(1));
-        pairs.filter(|(row, _)| row[0] == Array as u64 && row[1] > 0).map(|(_, first)| first[0])
+    /// What each array tells: the kind of its elements, and how many there are.
+    pub fn arrays(&self) -> impl Iterator<Item = (u64, u64)> + '_ {
+        let rows = self.words.chunks_exact(2).filter(|row| row[0] == Array as u64);
+        rows.map(|row| (kind_in(row[1]), count_in(row[1])))
     }
 
     /// Whether an array holds lists, maps or arrays.
     pub fn is_nested(&self) -> bool {
-        self.elements().any(|kind| Kind::COMPOUNDS.iter().any(|&compound| compound as u64 == kind))
+        self.arrays().any(|(kind, count)| count > 0 && Kind::COMPOUNDS.iter().any(|&compound| compound as u64 == kind))
+    }
+
+    pub fn has_empty_array(&self) -> bool {
+        self.arrays().any(|(_, count)| count == 0)
+    }
+
+    /// The first row that is an empty array and tells no kind.
+    pub fn untold(&self) -> Option<usize> {
+        self.words.chunks_exact(2).position(|row| *row == UNTOLD)
+    }
+
+    /// Has those of the empty arrays that are chosen tell no kind.
+    pub fn untell(&mut self, mut is_chosen: impl FnMut() -> bool) {
+        for row in self.words.chunks_exact_mut(2) {
+            if row[0] == Array as u64 && count_in(row[1]) == 0 && is_chosen() {
+                row.copy_from_slice(&UNTOLD);
+            }
+        }
     }
 }
+
+/// The row of an empty array that tells no kind: the reader gives it where there is no element code, and the writer refuses it.
+const UNTOLD: [u64; 2] = [Array as u64, 0];
 
 /// As in docs/FORMAT.md: `d1:2 b3:1 70:2, text 76`.
 impl fmt::Display for Table {
     fn fmt(&self, f: &mut fmt::Formatter<'_>) -> fmt::Result {
         const MOST: usize = 24;
-        let rows: Vec<_> = self.words.chunks(2).take(MOST).map(|row| format!("{:02x}:{}", row[0], row[1])).collect();
+        let rows: Vec<_> = self.words.chunks(2).take(MOST).map(|row| shown(row[0], row[1])).collect();
         write!(f, "{}", rows.join(" "))?;
         if self.rows() > MOST {
             write!(f, " .. ({} rows)", self.rows())?;
@@ -142,6 +215,14 @@ impl fmt::Display for Table {
             write!(f, ", text {}", hex(&self.text))?;
         }
         Ok(())
+    }
+}
+
+/// A row as the documents show it: `kind:number`, and `[kind:count]` for an array that tells its elements' kind.
+pub fn shown(kind: u64, number: u64) -> std::string::String {
+    match kind_in(number) {
+        told if kind == Array as u64 && told > 0 => format!("[{told:02x}:{}]", count_in(number)),
+        _ => format!("{kind:02x}:{number}"),
     }
 }
 
@@ -161,6 +242,17 @@ pub struct Row<'a> {
     pub kind: Kind,
     pub number: u64,
     pub text: &'a [u8],
+}
+
+impl Row<'_> {
+    pub fn children(&self) -> u64 {
+        self.kind.children(self.number)
+    }
+
+    /// The kind of an array's elements, where its number tells one that arrays can hold.
+    pub fn element(&self) -> Option<Kind> {
+        Kind::of(kind_in(self.number)).filter(|kind| kind.is_element())
+    }
 }
 
 /// The rows of a table in order, each with its text. Only for tables whose kinds are known and whose text is long enough.
