@@ -3,9 +3,21 @@
  * Link with libexport.a, which `rt staticlib export` makes (x86-64):   cc program.c libexport.a
  *
  * A table is words, two to a row (kind, number), the parent first, and beside them the text: the bytes of all rows that have
- * some, in the order of the rows. Each child stands with all that is below it before the next, in lists, maps and arrays alike: an
- * array of two lists, of uint 1 and of uint 2 and 3, is
- *   {AFSUNGAR_ARRAY, 2, AFSUNGAR_LIST, 1, AFSUNGAR_UINT, 1, AFSUNGAR_LIST, 2, AFSUNGAR_UINT, 2, AFSUNGAR_UINT, 3}
+ * some, in the order of the rows. Each child stands with all that is below it before the next, in lists, maps and arrays alike.
+ *
+ * Arrays
+ *   The number of an array's row tells the kind of its elements and how many they are: AFSUNGAR_ELEMENTS(kind, count). The kind is
+ *   told also where there are none. An array of two lists, of uint 1 and of uint 2 and 3, and an empty array of strings are
+ *     {AFSUNGAR_ARRAY, AFSUNGAR_ELEMENTS(AFSUNGAR_LIST, 2),
+ *      AFSUNGAR_LIST, 1, AFSUNGAR_UINT, 1, AFSUNGAR_LIST, 2, AFSUNGAR_UINT, 2, AFSUNGAR_UINT, 3}
+ *     {AFSUNGAR_ARRAY, AFSUNGAR_ELEMENTS(AFSUNGAR_STRING, 0)}
+ *   - In writing an array's row is refused with 4 where the kind is null, which arrays cannot hold; with 5 where it is none of the
+ *     25, or 0, or where the count is above 1,048,576. (Arrays cannot hold described values either, and their kind is 0.) An
+ *     element's row is refused with 4 where its kind is not the one that is told.
+ *   - In reading the kind is that of the element code, in whichever form it came. An empty array may come without a code: its row
+ *     has the number 0, and the kind 0, AFSUNGAR_NOT_TOLD.
+ *   - So what was read is not always written again. Some senders write every empty array without a code, and the row that is read
+ *     from it is refused (5) until a kind is put in.
  *
  * What is answered
  *   Each function returns the number of the refusal, 1 to 14 (below), or 0 for success. All else that it answers is stored
@@ -41,8 +53,8 @@ enum afsungar_refusal {
     AFSUNGAR_ROWS_AMISS = 1,      /* words odd in number; a row is needed and none is left; rows are left at the end */
     AFSUNGAR_KIND_UNKNOWN = 2,    /* the kind is not one of the 25 */
     AFSUNGAR_TOO_DEEP = 3,        /* a value would be at level 33 */
-    AFSUNGAR_ELEMENT_UNFIT = 4,   /* an array element's kind or code is not allowed; in writing also: unlike the first one's */
-    AFSUNGAR_NUMBER_OUTSIDE = 5,  /* the number is not one that its kind allows */
+    AFSUNGAR_ELEMENT_UNFIT = 4,   /* in writing as above, under Arrays; in reading: an array's element code is not allowed */
+    AFSUNGAR_NUMBER_OUTSIDE = 5,  /* the number is not one that its kind allows (for an array's, see above) */
     AFSUNGAR_TEXT_AMISS = 6,      /* too little text for the row, or bad text; text is left at the end */
     AFSUNGAR_TOO_LONG = 7,        /* more than 1,048,576 bytes would be written */
     AFSUNGAR_OUTPUT_SHORT = 8,    /* the output is shorter than the size */
@@ -80,8 +92,19 @@ enum afsungar_kind {
     AFSUNGAR_SYMBOL = 0xb3,     /* the same, in ASCII */
     AFSUNGAR_LIST = 0xd0,       /* the number of children */
     AFSUNGAR_MAP = 0xd1,        /* the number of keys plus values; children: key, value, key, value, .. */
-    AFSUNGAR_ARRAY = 0xf0       /* the number of children, all of one kind: any but null and described */
+    AFSUNGAR_ARRAY = 0xf0       /* AFSUNGAR_ELEMENTS(kind, count): so many children of one kind, any but null and described */
 };
+
+/* The number of an array's row, as a uint64_t that is constant where its parts are: so many elements of that kind. The count has to
+ * be below 4,294,967,296; what is more would change the kind. */
+#define AFSUNGAR_ELEMENTS(kind, count) (UINT64_C(4294967296) * (kind) + (count))
+
+/* The kind and the count in such a number. */
+#define AFSUNGAR_ELEMENT_KIND(number) ((number) / UINT64_C(4294967296))
+#define AFSUNGAR_ELEMENT_COUNT(number) ((number) % UINT64_C(4294967296))
+
+/* In the place of the kind: an array that was read has no elements, and does not tell their kind. */
+#define AFSUNGAR_NOT_TOLD 0
 
 /* The number of bytes that afsungar_write writes. Refusals: 1 to 7. */
 uint64_t afsungar_size(const uint64_t *words, size_t words_len, const uint8_t *text, size_t text_len,

@@ -13,18 +13,19 @@
 enum { MOST = 4096 };
 
 /* An order: which one and when, what, its size, the sizes at hand, how many for each ear, and each ear's vents. These are an array
- * of lists; a vent is its size, and how far across and up it is, in tenths of a millimetre. */
+ * of lists; a vent is its size, and how far across and up it is, in tenths of a millimetre. Arrays tell the kind of their elements,
+ * even if there are none: an ear without vents has AFSUNGAR_ELEMENTS(AFSUNGAR_LIST, 0). */
 static const uint64_t order[] = {
     AFSUNGAR_DESCRIBED, 2, AFSUNGAR_SYMBOL, 19, AFSUNGAR_LIST, 7,
     AFSUNGAR_ULONG, 4711, AFSUNGAR_TIMESTAMP, 1763164800000,
     AFSUNGAR_SYMBOL, 9, AFSUNGAR_STRING, 5,
-    AFSUNGAR_ARRAY, 3, AFSUNGAR_STRING, 5, AFSUNGAR_STRING, 5, AFSUNGAR_STRING, 2,
+    AFSUNGAR_ARRAY, AFSUNGAR_ELEMENTS(AFSUNGAR_STRING, 3), AFSUNGAR_STRING, 5, AFSUNGAR_STRING, 5, AFSUNGAR_STRING, 2,
     AFSUNGAR_MAP, 4, AFSUNGAR_SYMBOL, 4, AFSUNGAR_UINT, 2, AFSUNGAR_SYMBOL, 5, AFSUNGAR_UINT, 1,
     AFSUNGAR_MAP, 4,
-    AFSUNGAR_SYMBOL, 4, AFSUNGAR_ARRAY, 2,
+    AFSUNGAR_SYMBOL, 4, AFSUNGAR_ARRAY, AFSUNGAR_ELEMENTS(AFSUNGAR_LIST, 2),
     AFSUNGAR_LIST, 3, AFSUNGAR_STRING, 5, AFSUNGAR_INT, 35, AFSUNGAR_INT, (uint32_t)-12,
     AFSUNGAR_LIST, 3, AFSUNGAR_STRING, 5, AFSUNGAR_INT, 48, AFSUNGAR_INT, 7,
-    AFSUNGAR_SYMBOL, 5, AFSUNGAR_ARRAY, 1,
+    AFSUNGAR_SYMBOL, 5, AFSUNGAR_ARRAY, AFSUNGAR_ELEMENTS(AFSUNGAR_LIST, 1),
     AFSUNGAR_LIST, 3, AFSUNGAR_STRING, 5, AFSUNGAR_INT, (uint32_t)-35, AFSUNGAR_INT, (uint32_t)-12,
 };
 

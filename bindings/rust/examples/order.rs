@@ -1,9 +1,9 @@
-//! Writes the order of examples/order.amqp, with a UUID more, and reads it back.
+//! Writes the order of examples/order.amqp, with a UUID and an empty array more, and reads it back.
 //!
 //!     cargo run --example order
 use std::error::Error;
 
-use afsungar::{Builder, Row, Table, Value};
+use afsungar::{Builder, Kind, Row, Table, Value};
 
 /// A vent: its size, and how far across and up it is, in tenths of a millimetre.
 type Vent = (&'static str, i32, i32);
@@ -23,7 +23,8 @@ fn write_order() -> Result<Vec<u8>, afsungar::Refusal> {
             t.symbol("afsungar:order:list").list(|t| {
                 t.ulong(4711).timestamp(1_763_164_800_000).symbol("ear-shell").string("Ø1.2");
                 t.uuid(*b"\x6f\x1c\x0a\x52\x3b\x8e\x4d\x10\x9a\x77\x21\xe4\x55\xd0\x0c\x3f");
-                t.array_of(["Ø1.2", "Ø1.3", "M4"]);
+                // The sizes at hand, and what is to be engraved: nothing. Both are arrays of strings.
+                t.array_of(["Ø1.2", "Ø1.3", "M4"]).array_of::<&str>([]);
                 t.map_of([(Value::Symbol("left"), 2u32), (Value::Symbol("right"), 1u32)]);
                 t.map(|t| {
                     put_vents(t.symbol("left"), &LEFT);
@@ -37,7 +38,7 @@ fn write_order() -> Result<Vec<u8>, afsungar::Refusal> {
 
 /// An ear's vents: an array of small lists.
 fn put_vents(t: &mut Builder, vents: &[Vent]) {
-    t.array(|t| {
+    t.array(Kind::List, |t| {
         for &(size, across, up) in vents {
             t.list(|t| {
                 t.string(size).int(across).int(up);

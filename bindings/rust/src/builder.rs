@@ -1,11 +1,14 @@
+use std::convert::identity;
 use std::mem;
 
-use crate::{Kind, Table, Value};
+use crate::kind::children;
+use crate::{Element, Kind, Table, Value};
 
 /// Puts a table together, value by value; see [`Table::build`].
 ///
 /// There is a method for each of the 25 kinds. Those with children take a closure that puts the children in; their number
-/// is counted. Nothing is checked on the way: the writer checks, and says which row is wrong.
+/// is counted. An array takes the kind of its elements as well. Nothing is checked on the way: the writer checks, and says
+/// which row is wrong.
 ///
 /// ```
 /// # fn main() -> Result<(), afsungar::Refusal> {
@@ -17,7 +20,7 @@ use crate::{Kind, Table, Value};
 ///         t.symbol("sizes").array_of(["Ø1.2", "M4"]);
 ///     });
 /// });
-/// assert_eq!(map.to_string(), "0 d1 4\n1 b3 4\n2 70 2\n3 b3 5\n4 f0 2\n5 b1 5\n6 b1 2\n");
+/// assert_eq!(map.to_string(), "0 d1 4\n1 b3 4\n2 70 2\n3 b3 5\n4 f0 760209211394\n5 b1 5\n6 b1 2\n");
 /// assert_eq!(map.to_bytes()?.len(), 37);
 /// # Ok(())
 /// # }
@@ -152,23 +155,25 @@ impl Builder {
 
     /// A list of what `children` puts in.
     pub fn list(&mut self, children: impl FnOnce(&mut Self)) -> &mut Self {
-        self.parent(Kind::List, children)
+        self.parent(Kind::List, identity, children)
     }
 
     /// A map of what `entries` puts in: key, value, key, value, and so on.
     pub fn map(&mut self, entries: impl FnOnce(&mut Self)) -> &mut Self {
-        self.parent(Kind::Map, entries)
+        self.parent(Kind::Map, identity, entries)
     }
 
-    /// An array of what `elements` puts in: all of one kind, which is neither null nor described.
+    /// An array of what `elements` puts in: all of the kind `element`, which is neither null nor described.
     ///
     /// Elements that are lists, maps or arrays need not be alike beyond that.
     ///
     /// ```
     /// # fn main() -> Result<(), afsungar::Refusal> {
+    /// use afsungar::{Kind, Table};
+    ///
     /// let vents = [("Ø1.2", 35, -12), ("Ø1.3", 48, 7)];
-    /// let array = afsungar::Table::build(|t| {
-    ///     t.array(|t| {
+    /// let array = Table::build(|t| {
+    ///     t.array(Kind::List, |t| {
     ///         for (size, across, up) in vents {
     ///             t.list(|t| {
     ///                 t.string(size).int(across).int(up);
@@ -181,8 +186,37 @@ impl Builder {
     /// # Ok(())
     /// # }
     /// ```
-    pub fn array(&mut self, elements: impl FnOnce(&mut Self)) -> &mut Self {
-        self.parent(Kind::Array, elements)
+    ///
+    /// It takes the place of [`array_of`](Builder::array_of) for kinds that no type tells, such as symbol and timestamp:
+    ///
+    /// ```
+    /// # use afsungar::{Kind, Table, Value};
+    /// let ears = ["left", "right"];
+    /// let array = Table::build(|t| {
+    ///     t.array(Kind::Symbol, |t| t.extend(ears.map(Value::Symbol)));
+    /// });
+    /// # assert_eq!(array.to_bytes().unwrap().len(), 21);
+    /// ```
+    pub fn array(&mut self, element: Kind, elements: impl FnOnce(&mut Self)) -> &mut Self {
+        let number = |count| Value::Array { count: count as usize, element: Some(element) }.number();
+        self.parent(Kind::Array, number, elements)
+    }
+
+    /// An array of no elements, which would be of this kind.
+    ///
+    /// ```
+    /// # fn main() -> Result<(), afsungar::Refusal> {
+    /// use afsungar::{Kind, Table};
+    ///
+    /// let none = Table::build(|t| {
+    ///     t.empty_array(Kind::Uint);
+    /// });
+    /// assert_eq!(none.to_bytes()?, [0xe0, 0x02, 0x00, 0x70]);
+    /// # Ok(())
+    /// # }
+    /// ```
+    pub fn empty_array(&mut self, element: Kind) -> &mut Self {
+        self.push(Value::Array { count: 0, element: Some(element) })
     }
 
     /// A described value; `both` puts in the descriptor, then the value.
@@ -199,7 +233,7 @@ impl Builder {
     /// # }
     /// ```
     pub fn described(&mut self, both: impl FnOnce(&mut Self)) -> &mut Self {
-        self.parent(Kind::Described, both)
+        self.parent(Kind::Described, identity, both)
     }
 
     /// A list of these values.
@@ -207,9 +241,25 @@ impl Builder {
         self.list(|t| t.extend(children))
     }
 
-    /// An array of these values.
-    pub fn array_of<'a, V: Into<Value<'a>>>(&mut self, elements: impl IntoIterator<Item = V>) -> &mut Self {
-        self.array(|t| t.extend(elements))
+    /// An array of these values. Their type tells the kind, also where there are none of them.
+    ///
+    /// ```
+    /// # fn main() -> Result<(), afsungar::Refusal> {
+    /// use afsungar::Table;
+    ///
+    /// let sizes = Table::build(|t| {
+    ///     t.array_of(["Ø1.2", "M4"]);
+    /// });
+    /// let none = Table::build(|t| {
+    ///     t.array_of::<&str>([]);
+    /// });
+    /// assert_eq!(sizes.to_bytes()?[..4], [0xe0, 0x11, 0x02, 0xb1]);
+    /// assert_eq!(none.to_bytes()?, [0xe0, 0x02, 0x00, 0xb1]);
+    /// # Ok(())
+    /// # }
+    /// ```
+    pub fn array_of<'a, E: Element<'a>>(&mut self, elements: impl IntoIterator<Item = E>) -> &mut Self {
+        self.array(E::KIND, |t| t.extend(elements))
     }
 
     /// An array of lists, each of these values.
@@ -233,7 +283,7 @@ impl Builder {
         &mut self,
         lists: impl IntoIterator<Item = impl IntoIterator<Item = V>>,
     ) -> &mut Self {
-        self.array_by(lists, |t, list| t.list_of(list))
+        self.array_by(Kind::List, lists, |t, list| t.list_of(list))
     }
 
     /// An array of maps, each of these keys and values.
@@ -253,27 +303,30 @@ impl Builder {
         &mut self,
         maps: impl IntoIterator<Item = impl IntoIterator<Item = (K, V)>>,
     ) -> &mut Self {
-        self.array_by(maps, |t, map| t.map_of(map))
+        self.array_by(Kind::Map, maps, |t, map| t.map_of(map))
     }
 
-    /// An array of arrays, each of these values.
+    /// An array of arrays, each of these values. Their type tells the kind of each of the inner arrays, as in
+    /// [`array_of`](Builder::array_of).
     ///
     /// ```
     /// # fn main() -> Result<(), afsungar::Refusal> {
-    /// use afsungar::Table;
+    /// use afsungar::{Kind, Table};
     ///
     /// let rows = Table::build(|t| {
-    ///     t.array_of_arrays([[1.0f64, 0.0], [0.0, 1.0]]);
+    ///     t.array_of_arrays([vec![1.0f64, 0.5], vec![]]);
     /// });
+    /// let kinds = rows.rows().map(|row| row.element_kind());
+    /// assert!(kinds.eq([Some(Kind::Array), Some(Kind::Double), None, None, Some(Kind::Double)]));
     /// assert_eq!(Table::from_bytes(&rows.to_bytes()?)?, rows);
     /// # Ok(())
     /// # }
     /// ```
-    pub fn array_of_arrays<'a, V: Into<Value<'a>>>(
+    pub fn array_of_arrays<'a, E: Element<'a>>(
         &mut self,
-        arrays: impl IntoIterator<Item = impl IntoIterator<Item = V>>,
+        arrays: impl IntoIterator<Item = impl IntoIterator<Item = E>>,
     ) -> &mut Self {
-        self.array_by(arrays, |t, array| t.array_of(array))
+        self.array_by(Kind::Array, arrays, |t, array| t.array_of(array))
     }
 
     /// A map of these keys and values.
@@ -304,12 +357,12 @@ impl Builder {
     }
 
     /// A row as it stands, whatever it holds. Behind one that has children, they are the values that come next.
+    ///
+    /// The number of an array's row is that of [`Kind::array_number`].
     pub fn row(&mut self, kind: u64, number: u64, text: impl AsRef<[u8]>) -> &mut Self {
         self.enter(kind, number);
         self.text.extend_from_slice(text.as_ref());
-        if Kind::from_code(kind).is_some_and(Kind::has_children) {
-            self.due = self.due.saturating_add(number);
-        }
+        self.due = self.due.saturating_add(children(kind, number));
         self
     }
 
@@ -338,25 +391,26 @@ impl Builder {
     /// An array with what `put` makes of each item.
     fn array_by<T>(
         &mut self,
+        element: Kind,
         items: impl IntoIterator<Item = T>,
         put: impl Fn(&mut Self, T) -> &mut Self,
     ) -> &mut Self {
-        self.array(|t| {
+        self.array(element, |t| {
             for item in items {
                 put(t, item);
             }
         })
     }
 
-    /// A row with the number of what `children` puts in.
-    fn parent(&mut self, kind: Kind, children: impl FnOnce(&mut Self)) -> &mut Self {
+    /// A row with what `children` puts in. Its number is made of how many they are.
+    fn parent(&mut self, kind: Kind, number: impl FnOnce(u64) -> u64, children: impl FnOnce(&mut Self)) -> &mut Self {
         self.enter(kind.code(), 0);
         let row = self.words.len();
         let outer = (mem::take(&mut self.count), mem::take(&mut self.due));
         children(self);
         // The closure may have put another builder in this one's place, so the row may be gone.
-        if let Some(number) = row.checked_sub(1).and_then(|at| self.words.get_mut(at)) {
-            *number = self.count;
+        if let Some(word) = row.checked_sub(1).and_then(|at| self.words.get_mut(at)) {
+            *word = number(self.count);
         }
         (self.count, self.due) = outer;
         self

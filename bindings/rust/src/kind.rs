@@ -110,6 +110,43 @@ impl Kind {
     pub const fn is_element(self) -> bool {
         !matches!(self, Kind::Null | Kind::Described)
     }
+
+    /// The number of the row of an array that has so many elements of this kind: the second word of that row.
+    ///
+    /// The kind stands above the count, in the upper 32 bits. Described has the code 0, which means there that no kind is
+    /// told.
+    ///
+    /// ```
+    /// # fn main() -> Result<(), afsungar::Refusal> {
+    /// use afsungar::Kind;
+    ///
+    /// assert_eq!(Kind::Uint.array_number(0), 0x70_0000_0000);
+    /// let words = [0xf0, Kind::Uint.array_number(2), 0x70, 0, 0x70, 1]; // an array of uint 0 and uint 1
+    /// assert_eq!(afsungar::write_to_vec(&words, &[])?, [0xe0, 0x0a, 0x02, 0x70, 0, 0, 0, 0, 0, 0, 0, 1]);
+    /// # Ok(())
+    /// # }
+    /// ```
+    #[must_use]
+    pub const fn array_number(self, count: u32) -> u64 {
+        self.code() << COUNT_BITS | count as u64
+    }
+}
+
+/// The width of the count in the number of an array's row. Above it is the kind of the elements, or 0 if it is not told.
+const COUNT_BITS: u32 = u32::BITS;
+
+/// The code in the number of an array's row: of the kind of its elements, or 0.
+pub(crate) const fn element_code(number: u64) -> u64 {
+    number >> COUNT_BITS
+}
+
+/// How many children a row says it has.
+pub(crate) const fn children(kind: u64, number: u64) -> u64 {
+    match Kind::from_code(kind) {
+        Some(Kind::Array) => number & u32::MAX as u64,
+        Some(kind) if kind.has_children() => number,
+        _ => 0,
+    }
 }
 
 impl fmt::Display for Kind {

@@ -27,11 +27,13 @@
 //! A value is a table: rows of two words each, a kind and a number, the parent first; and beside them the bytes of all
 //! texts. [`Table`] owns one. [`Builder`] puts one together, and [`Row`] and [`Value`] look into it.
 //!
-//! An array holds values of one kind, lists, maps and arrays among them:
+//! An array holds values of one kind, lists, maps and arrays among them. It tells the kind also where it is empty: in
+//! [`array_of`](Builder::array_of) by the type of the values, in [`array`](Builder::array) and
+//! [`empty_array`](Builder::empty_array) by name. [`Value::Array`] gives it back.
 //!
 //! ```
 //! # fn main() -> Result<(), afsungar::Refusal> {
-//! use afsungar::Table;
+//! use afsungar::{Kind, Table, Value};
 //!
 //! let lists = Table::build(|t| {
 //!     t.array_of_lists([[35, -12], [48, 7]]);
@@ -40,13 +42,19 @@
 //! for list in table.root().into_iter().flat_map(|array| array.children()) {
 //!     println!("{:?}", list.child_values()?);
 //! }
+//!
+//! let no_sizes = Table::build(|t| {
+//!     t.array_of::<&str>([]); // or t.empty_array(Kind::String)
+//! });
+//! let table = Table::from_bytes(&no_sizes.to_bytes()?)?;
+//! assert_eq!(table.values()?, [Value::Array { count: 0, element: Some(Kind::String) }]);
 //! # Ok(())
 //! # }
 //! ```
 //!
 //! Underneath are four functions that work on lent memory and allocate nothing: [`size`], [`write`](write()), [`measure`]
 //! and [`read`]; and the [`Walker`], which goes through values that stand end to end. [`values`] is an iterator that does
-//! the same.
+//! the same. They take words as they are; [`Kind::array_number`] makes the number of an array's row.
 //!
 //! ```
 //! # fn main() -> Result<(), afsungar::Refusal> {
@@ -91,7 +99,7 @@ pub use builder::Builder;
 pub use kind::Kind;
 pub use refusal::{Reason, Refusal, Task};
 pub use table::{Children, Row, Rows, Table};
-pub use value::{Mismatch, Value};
+pub use value::{Element, Mismatch, Value};
 pub use walker::{values, Values, Walker};
 
 /// No value stands deeper than this. The root is at level 1, and each child is one level below its parent.

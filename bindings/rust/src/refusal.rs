@@ -56,9 +56,10 @@ pub enum Reason {
     KindUnknown = 2,
     /// 3: a value would be at level 33.
     TooDeep = 3,
-    /// 4: an array element's kind or code is not allowed; in writing also: it is unlike the first element's.
+    /// 4: in writing, an array tells a kind that arrays cannot hold, or an element has another kind than its array tells; in
+    /// reading, an array's element code is not allowed.
     ElementUnfit = 4,
-    /// 5: the number is not one that its kind allows.
+    /// 5: the number is not one that its kind allows. For an array's also: it tells no kind, or none of the 25.
     NumberOutside = 5,
     /// 6: the text left is too short for the row, or bad for it; text is left at the end.
     TextAmiss = 6,
@@ -170,7 +171,9 @@ impl fmt::Display for Refusal {
             (Reason::RowsAmiss, _) => "a row is missing or left over",
             (Reason::KindUnknown, _) => "the kind is not one of the 25",
             (Reason::TooDeep, _) => "a value stands deeper than level 32",
-            (Reason::ElementUnfit, Task::Writing) => "an array element's kind is not allowed or unlike the first one's",
+            (Reason::ElementUnfit, Task::Writing) => {
+                "an array tells a kind that it cannot hold, or an element has another one"
+            }
             (Reason::ElementUnfit, Task::Reading) => "an array's element code is not allowed",
             (Reason::NumberOutside, _) => "the number is not one that the row's kind allows",
             (Reason::TextAmiss, _) => "text is missing, left over or not valid for the row",

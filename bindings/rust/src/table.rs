@@ -2,6 +2,7 @@ use std::fmt;
 use std::iter::FusedIterator;
 use std::str;
 
+use crate::kind::{children, element_code};
 use crate::{call, Builder, Extent, Kind, Reason, Refusal, Value};
 
 /// A value as rows and text.
@@ -9,7 +10,7 @@ use crate::{call, Builder, Extent, Kind, Reason, Refusal, Value};
 /// A row is two words, its kind and its number. A parent's row stands first, then its children in order, each with all that
 /// is below it. The text holds the bytes of all rows that have some, in the order of the rows.
 ///
-/// A table that was read is always good. One that was put together may hold anything; the writer checks it.
+/// A table that was read can always be looked into. One that was put together may hold anything; the writer checks it.
 ///
 /// ```
 /// # fn main() -> Result<(), afsungar::Refusal> {
@@ -24,10 +25,30 @@ use crate::{call, Builder, Extent, Kind, Reason, Refusal, Value};
 /// let again = Table::from_bytes(&bytes)?;
 /// assert_eq!(again, table);
 ///
-/// let [Value::List(3), Value::Uint(n), Value::String(s), Value::Array(2), ..] = again.values()?[..] else {
+/// let [Value::List(3), Value::Uint(n), Value::String(s), Value::Array { count: 2, .. }, ..] = again.values()?[..] else {
 ///     panic!("not what was written");
 /// };
 /// assert_eq!((n, s), (255, "Ø1.2"));
+/// # Ok(())
+/// # }
+/// ```
+///
+/// What was read is not always written again: the writer has limits that reading has not, and each array has to tell the
+/// kind of its elements. Some senders leave that out where an array is empty. The kind can be put in:
+///
+/// ```
+/// # fn main() -> Result<(), afsungar::Refusal> {
+/// use afsungar::{Kind, Reason, Table, Value};
+///
+/// let table = Table::from_bytes(&[0xc0, 0x05, 0x02, 0x40, 0xe0, 0x01, 0x00])?; // a list: null, an empty array
+/// assert_eq!(table.to_bytes().unwrap_err().reason(), Reason::NumberOutside);
+///
+/// let told = table.values()?.into_iter().map(|value| match value {
+///     Value::Array { count, element: None } => Value::Array { count, element: Some(Kind::Symbol) },
+///     other => other,
+/// });
+/// let told: Table = told.collect();
+/// assert_eq!(told.to_bytes()?, [0xc0, 0x06, 0x02, 0x40, 0xe0, 0x02, 0x00, 0xb3]);
 /// # Ok(())
 /// # }
 /// ```
@@ -208,7 +229,8 @@ pub struct Row<'a> {
     pub index: usize,
     /// Its kind as a word; [`Kind::from_code`] names it.
     pub kind: u64,
-    /// Its number: the value itself, a length or a count.
+    /// Its number: the value itself, a length or a count. An array's has two parts, [`count`](Row::count) and
+    /// [`element_kind`](Row::element_kind).
     pub number: u64,
     /// Its part of the text; less of it where the table has too little.
     pub text: &'a [u8],
@@ -219,8 +241,9 @@ impl<'a> Row<'a> {
     /// What it holds.
     ///
     /// It is refused as the writer would refuse the row: with [`KindUnknown`](Reason::KindUnknown),
-    /// [`NumberOutside`](Reason::NumberOutside) or [`TextAmiss`](Reason::TextAmiss). Not so where the table was read. The
-    /// writer's limits of 1,048,576 are not looked at.
+    /// [`ElementUnfit`](Reason::ElementUnfit), where an array tells a kind that arrays cannot hold,
+    /// [`NumberOutside`](Reason::NumberOutside) or [`TextAmiss`](Reason::TextAmiss). Not so where the table was read: the
+    /// writer's limits of 1,048,576 are not looked at, and an empty array need not tell the kind of its elements.
     pub fn value(&self) -> Result<Value<'a>, Refusal> {
         self.typed().map_err(|reason| Refusal::writing(reason, self.index as u64))
     }
@@ -257,17 +280,50 @@ impl<'a> Row<'a> {
             Kind::Symbol => Value::Symbol(Some(string()?).filter(|text| text.is_ascii()).ok_or(Reason::TextAmiss)?),
             Kind::List => Value::List(self.count()),
             Kind::Map => numbered(number % 2 == 0).map(|()| Value::Map(self.count()))?,
-            Kind::Array => Value::Array(self.count()),
+            Kind::Array => Value::Array { count: self.count(), element: self.element()? },
         })
     }
 
-    /// How many children it says it has: its number if its kind has children, else 0.
+    /// The kind that an array's row tells, if it is one that arrays can hold; none if an empty array tells none.
+    fn element(&self) -> Result<Option<Kind>, Reason> {
+        match (element_code(self.number), self.count()) {
+            (0, 0) => Ok(None),
+            (0, _) => Err(Reason::NumberOutside),
+            (code, _) => match Kind::from_code(code) {
+                Some(kind) if kind.is_element() => Ok(Some(kind)),
+                Some(_) => Err(Reason::ElementUnfit),
+                None => Err(Reason::NumberOutside),
+            },
+        }
+    }
+
+    /// How many children it says it has: its number if its kind has children, of an array's number the part that is the
+    /// count; else 0.
     #[must_use]
     pub fn count(&self) -> usize {
-        if Kind::from_code(self.kind).is_some_and(Kind::has_children) {
-            self.number as usize
-        } else {
-            0
+        children(self.kind, self.number) as usize
+    }
+
+    /// The kind of its elements: none if it is an array that does not tell it, or no array.
+    ///
+    /// It is none, too, where the row tells what arrays cannot hold or what is no kind; [`value`](Row::value) then says so.
+    ///
+    /// ```
+    /// # fn main() -> Result<(), afsungar::Refusal> {
+    /// use afsungar::{Kind, Table};
+    ///
+    /// let told = Table::from_bytes(&[0xe0, 0x02, 0x00, 0xa3])?; // an empty array, its element code that of short symbols
+    /// assert_eq!(told.root().and_then(|array| array.element_kind()), Some(Kind::Symbol));
+    /// let not_told = Table::from_bytes(&[0xe0, 0x01, 0x00])?;
+    /// assert_eq!(not_told.root().and_then(|array| array.element_kind()), None);
+    /// # Ok(())
+    /// # }
+    /// ```
+    #[must_use]
+    pub fn element_kind(&self) -> Option<Kind> {
+        match self.typed() {
+            Ok(Value::Array { element, .. }) => element,
+            _ => None,
         }
     }
 
@@ -292,10 +348,10 @@ impl<'a> Row<'a> {
     ///
     /// ```
     /// # fn main() -> Result<(), afsungar::Refusal> {
-    /// use afsungar::{Table, Value};
+    /// use afsungar::{Kind, Table, Value};
     ///
     /// let vents = Table::build(|t| {
-    ///     t.array(|t| {
+    ///     t.array(Kind::List, |t| {
     ///         t.list_of([Value::String("Ø1.2"), Value::Int(35)]);
     ///         t.list_of([Value::String("Ø1.3"), Value::Int(48)]);
     ///     });

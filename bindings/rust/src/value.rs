@@ -5,7 +5,8 @@ use crate::Kind;
 
 /// What a row holds, by its kind.
 ///
-/// The four kinds that have children hold how many. The children are the rows that follow, each with all that is below it.
+/// The four kinds that have children hold how many, and an array holds the kind of its elements too. The children are the
+/// rows that follow, each with all that is below it.
 ///
 /// Rust's own types are turned into values by [`From`], and back by [`TryFrom`]:
 ///
@@ -70,7 +71,17 @@ pub enum Value<'a> {
     /// So many keys and values follow, both counted: a map of two entries is `Map(4)`.
     Map(usize),
     /// So many elements follow, all of one kind, which may be list, map or array.
-    Array(usize),
+    Array {
+        /// How many.
+        count: usize,
+        /// Their kind; none where it is not told.
+        ///
+        /// Only an empty array that was read may leave it untold. The writer refuses that
+        /// ([`NumberOutside`](crate::Reason::NumberOutside)); [`Table`](crate::Table) shows how to put the kind in.
+        /// [`Kind::Described`] has the same number as none, and is refused alike; [`Kind::Null`] is refused with
+        /// [`ElementUnfit`](crate::Reason::ElementUnfit).
+        element: Option<Kind>,
+    },
 }
 
 impl Value<'_> {
@@ -102,11 +113,12 @@ impl Value<'_> {
             Value::Symbol(_) => Kind::Symbol,
             Value::List(_) => Kind::List,
             Value::Map(_) => Kind::Map,
-            Value::Array(_) => Kind::Array,
+            Value::Array { .. } => Kind::Array,
         }
     }
 
-    /// The number of its row: the value itself, a length or a count.
+    /// The number of its row: the value itself, a length or a count; for an array the count and the kind of its elements
+    /// ([`Kind::array_number`]).
     #[must_use]
     pub fn number(&self) -> u64 {
         match *self {
@@ -126,7 +138,12 @@ impl Value<'_> {
             Value::Double(x) => x.to_bits(),
             Value::Char(c) => u64::from(c),
             Value::Binary(_) | Value::String(_) | Value::Symbol(_) => self.text().len() as u64,
-            Value::List(n) | Value::Map(n) | Value::Array(n) => n as u64,
+            Value::List(n) | Value::Map(n) => n as u64,
+            Value::Array { count, element } => {
+                // A count that is too large for the number stays one that the writer refuses, and leaves the kind as it is.
+                let count = u32::try_from(count).unwrap_or(u32::MAX);
+                element.map_or(u64::from(count), |kind| kind.array_number(count))
+            }
         }
     }
 
@@ -146,14 +163,57 @@ impl Value<'_> {
     pub fn count(&self) -> usize {
         match *self {
             Value::Described => 2,
-            Value::List(n) | Value::Map(n) | Value::Array(n) => n,
+            Value::List(count) | Value::Map(count) | Value::Array { count, .. } => count,
             _ => 0,
         }
     }
 }
 
+/// A type whose values all have one kind, which arrays can hold: what [`Builder::array_of`](crate::Builder::array_of) takes.
+///
+/// The type tells the kind, so it is told also where there are no values. [`Value`] itself is no such type, nor is
+/// [`Option`], whose none is null. Where no type tells the kind, [`Builder::array`](crate::Builder::array) takes it by name.
+///
+/// A type of one's own can be one. Nothing is checked here: the writer refuses a value that has another kind.
+///
+/// ```
+/// # fn main() -> Result<(), afsungar::Refusal> {
+/// use afsungar::{Element, Kind, Table, Value};
+///
+/// struct Name(&'static str);
+///
+/// impl From<Name> for Value<'_> {
+///     fn from(name: Name) -> Self {
+///         Value::Symbol(name.0)
+///     }
+/// }
+///
+/// impl Element<'_> for Name {
+///     const KIND: Kind = Kind::Symbol;
+/// }
+///
+/// let names = Table::build(|t| {
+///     t.array_of([Name("left"), Name("right")]);
+/// });
+/// let none = Table::build(|t| {
+///     t.array_of::<Name>([]);
+/// });
+/// assert_eq!(names.to_bytes()?.len(), 21);
+/// assert_eq!(none.to_bytes()?, [0xe0, 0x02, 0x00, 0xb3]);
+/// # Ok(())
+/// # }
+/// ```
+pub trait Element<'a>: Into<Value<'a>> {
+    /// The kind that its values have.
+    const KIND: Kind;
+}
+
 macro_rules! convert {
     ($($type:ty, $kind:ident;)*) => { $(
+        impl Element<'_> for $type {
+            const KIND: Kind = Kind::$kind;
+        }
+
         impl From<$type> for Value<'_> {
             fn from(value: $type) -> Self {
                 Value::$kind(value)
@@ -202,11 +262,19 @@ impl<'a> From<&'a str> for Value<'a> {
     }
 }
 
+impl<'a> Element<'a> for &'a str {
+    const KIND: Kind = Kind::String;
+}
+
 /// A string.
 impl<'a> From<&'a String> for Value<'a> {
     fn from(text: &'a String) -> Self {
         Value::String(text)
     }
+}
+
+impl<'a> Element<'a> for &'a String {
+    const KIND: Kind = Kind::String;
 }
 
 /// A binary.
@@ -216,6 +284,10 @@ impl<'a> From<&'a [u8]> for Value<'a> {
     }
 }
 
+impl<'a> Element<'a> for &'a [u8] {
+    const KIND: Kind = Kind::Binary;
+}
+
 /// A binary. A UUID is made by name, [`Value::Uuid`].
 impl<'a, const N: usize> From<&'a [u8; N]> for Value<'a> {
     fn from(bytes: &'a [u8; N]) -> Self {
@@ -223,11 +295,19 @@ impl<'a, const N: usize> From<&'a [u8; N]> for Value<'a> {
     }
 }
 
+impl<'a, const N: usize> Element<'a> for &'a [u8; N] {
+    const KIND: Kind = Kind::Binary;
+}
+
 /// A binary.
 impl<'a> From<&'a Vec<u8>> for Value<'a> {
     fn from(bytes: &'a Vec<u8>) -> Self {
         Value::Binary(bytes)
     }
+}
+
+impl<'a> Element<'a> for &'a Vec<u8> {
+    const KIND: Kind = Kind::Binary;
 }
 
 /// Null for none.

@@ -1,7 +1,9 @@
 //! Tables and bytes by chance, always the same ones.
 use std::collections::BTreeMap;
 
-use afsungar::{measure, read, size, values, write, Builder, Extent, Kind, Reason, Row, Table, Walker, MAX_LEVEL};
+use afsungar::{
+    measure, read, size, values, write, Builder, Extent, Kind, Reason, Refusal, Row, Table, Value, Walker, MAX_LEVEL,
+};
 
 /// xorshift64*, from a fixed seed.
 struct Chance(u64);
@@ -94,10 +96,10 @@ impl Chance {
             Kind::Symbol => t.symbol(self.symbol()),
             Kind::List => t.list(|t| (0..self.children(level)).for_each(|_| self.any(t, level + 1))),
             Kind::Map => t.map(|t| (0..2 * self.children(level)).for_each(|_| self.any(t, level + 1))),
-            Kind::Array => t.array(|t| {
-                let kind = self.kind(level + 1, false, true);
-                (0..self.children(level)).for_each(|_| self.put(t, kind, level + 1));
-            }),
+            Kind::Array => {
+                let element = self.kind(level + 1, false, true);
+                t.array(element, |t| (0..self.children(level)).for_each(|_| self.put(t, element, level + 1)))
+            }
             Kind::Described => t.described(|t| (0..2).for_each(|_| self.any(t, level + 1))),
         };
     }
@@ -144,7 +146,7 @@ impl Chance {
             Kind::List => t.list(|t| self.down(t, below, depth - 1, level + 1)),
             Kind::Map => t.map(|t| self.down(t.null(), below, depth - 1, level + 1)),
             Kind::Described => t.described(|t| self.down(t.ulong(36), below, depth - 1, level + 1)),
-            _ => t.array(|t| {
+            _ => t.array(below, |t| {
                 // Beside it are elements that have no children, before and behind it.
                 (0..self.below(2)).for_each(|_| self.put(t, below, MAX_LEVEL));
                 self.down(t, below, depth - 1, level + 1);
@@ -154,24 +156,27 @@ impl Chance {
     }
 }
 
-/// The kinds of elements of the arrays in a value, each with how often it is there, and the deepest level in an array.
+/// The kinds that the arrays in a value tell, each with how many arrays have elements and how many have none, and the deepest
+/// level in an array.
 #[derive(Default)]
 struct Arrays {
-    of: BTreeMap<u64, usize>,
+    of: BTreeMap<Kind, [usize; 2]>,
     deepest: usize,
 }
 
 impl Arrays {
     fn see(&mut self, row: Row<'_>, level: usize, inside: bool) {
-        let is_array = row.kind == Kind::Array.code();
+        let element = row.element_kind();
+        assert_eq!(element.is_some(), row.kind == Kind::Array.code());
         if inside {
             self.deepest = self.deepest.max(level);
         }
-        for (at, child) in row.children().enumerate() {
-            if is_array && at == 0 {
-                *self.of.entry(child.kind).or_default() += 1;
-            }
-            self.see(child, level + 1, inside || is_array);
+        if let Some(kind) = element {
+            self.of.entry(kind).or_default()[usize::from(row.count() == 0)] += 1;
+        }
+        for child in row.children() {
+            assert!(element.map_or(true, |kind| kind.code() == child.kind));
+            self.see(child, level + 1, inside || element.is_some());
         }
     }
 }
@@ -210,10 +215,11 @@ fn tables_there_and_back() {
     }
     assert!(Kind::ALL.iter().all(|&kind| kinds[kind as usize] > 1000), "{kinds:?}");
     assert!(rows > 100_000 && longest > 2_000, "{rows} rows, the longest value has {longest} bytes");
-    let elements = Kind::ALL.into_iter().filter(|kind| kind.is_element()).map(Kind::code);
-    assert!(arrays.of.keys().copied().eq(elements), "{:x?}", arrays.of);
+    let elements = Kind::ALL.into_iter().filter(|kind| kind.is_element());
+    assert!(arrays.of.keys().copied().eq(elements), "{:?}", arrays.of);
+    assert!(arrays.of.values().flatten().all(|&seen| seen > 100), "{:?}", arrays.of);
     let compounds = [Kind::List, Kind::Map, Kind::Array];
-    assert!(compounds.iter().all(|kind| arrays.of[&kind.code()] > 1000), "{:x?}", arrays.of);
+    assert!(compounds.iter().all(|kind| arrays.of[kind][0] > 1000), "{:?}", arrays.of);
     assert_eq!(arrays.deepest, MAX_LEVEL);
 }
 
@@ -225,7 +231,7 @@ fn long_arrays() {
         let count = if round < 50 { 250 + chance.below(12) } else { chance.below(3_000) };
         let kind = chance.kind(2, true, true);
         let table = Table::build(|t| {
-            t.array(|t| (0..count).for_each(|_| chance.put(t, kind, 4)));
+            t.array(kind, |t| (0..count).for_each(|_| chance.put(t, kind, 4)));
         });
         assert_eq!(table.root().map(|root| root.count()), Some(count));
         let bytes = table.to_bytes().unwrap();
@@ -245,7 +251,38 @@ fn values_end_to_end() {
     }
 }
 
-/// Bytes that were damaged, or never were a value: whatever is read can be looked at and, read again, is the same.
+/// Empty arrays that do not tell their kind, beside values by chance: the first of them is refused in writing, and all is written
+/// once each has a kind.
+#[test]
+fn arrays_that_are_told_later() {
+    let mut chance = Chance(0x00af_5a17_9a6e_d007);
+    for _ in 0..2_000 {
+        let count = 1 + chance.below(8);
+        let body: Vec<u8> = (0..count)
+            .flat_map(|_| match chance.below(3) {
+                0 => vec![0xe0, 0x01, 0x00],
+                1 => vec![0xf0, 0, 0, 0, 4, 0, 0, 0, 0],
+                _ => Table::build(|t| chance.any(t, 3)).to_bytes().unwrap(),
+            })
+            .collect();
+        let fields = [body.len() as u32 + 4, count as u32].map(u32::to_be_bytes);
+        let bytes = [&[0xd0], &fields.concat()[..], &body[..]].concat();
+        let table = Table::from_bytes(&bytes).unwrap();
+        let not_told = Value::Array { count: 0, element: None };
+        let mut values = table.values().unwrap();
+        if let Some(row) = values.iter().position(|&value| value == not_told) {
+            assert_eq!(table.to_bytes(), Err(Refusal::writing(Reason::NumberOutside, row as u64)));
+        }
+        for value in values.iter_mut().filter(|value| **value == not_told) {
+            *value = Value::Array { count: 0, element: Some(chance.kind(3, false, true)) };
+        }
+        let told: Table = values.into_iter().collect();
+        assert_eq!(Table::from_bytes(&told.to_bytes().unwrap()), Ok(told));
+    }
+}
+
+/// Bytes that were damaged, or never were a value: whatever is read can be looked at. Written, it is read to the same; it is not
+/// written where an empty array does not tell its kind.
 #[test]
 fn bytes_by_chance() {
     let mut chance = Chance(0x00af_5a17_9a6e_d003);
@@ -255,7 +292,7 @@ fn bytes_by_chance() {
         for _ in 0..chance.below(4) {
             if !bytes.is_empty() {
                 let at = chance.below(bytes.len());
-                bytes[at] = chance.word() as u8;
+                bytes[at] = chance.number() as u8;
             }
         }
         let mut walker = Walker::new(&bytes);
@@ -266,8 +303,13 @@ fn bytes_by_chance() {
                 let table = Table::from_bytes(&bytes).unwrap();
                 assert_eq!((table.len(), table.text().len()), (extent.rows, extent.text));
                 assert_eq!(table.values().unwrap().into_iter().collect::<Table>(), table);
-                let written = table.to_bytes().unwrap();
-                assert_eq!(Table::from_bytes(&written), Ok(table));
+                match table.rows().find(|row| (row.kind, row.number) == (Kind::Array.code(), 0)) {
+                    None => assert_eq!(Table::from_bytes(&table.to_bytes().unwrap()), Ok(table)),
+                    Some(row) => {
+                        let refusal = Refusal::writing(Reason::NumberOutside, row.index as u64);
+                        assert_eq!(table.to_bytes(), Err(refusal));
+                    }
+                }
             }
             (Err(refusal), Some(Err(step))) => {
                 refused[usize::from(refusal.number)] += 1;
@@ -289,11 +331,9 @@ fn damaged_arrays() {
     let (mut accepted, mut refused) = (0, [0u32; 15]);
     for _ in 0..30_000 {
         let depth = chance.below(3).min(1) * chance.below(MAX_LEVEL - 2);
+        let kind = chance.kind(3, depth > 0, true);
         let array = Table::build(|t| {
-            t.array(|t| {
-                let kind = chance.kind(3, depth > 0, true);
-                (0..=chance.below(3)).for_each(|_| chance.down(t, kind, depth, 3));
-            });
+            t.array(kind, |t| (0..=chance.below(3)).for_each(|_| chance.down(t, kind, depth, 3)));
         });
         let list = Table::build(|t| {
             t.list(|t| {
@@ -331,8 +371,9 @@ fn tables_by_chance() {
     for round in 0..60_000 {
         let (mut words, mut text) = if round % 3 == 0 {
             let words = (0..chance.below(9)).flat_map(|_| {
-                let kind = Kind::ALL[chance.below(25)];
-                [kind.code(), chance.below(4) as u64]
+                let (kind, number) = (Kind::ALL[chance.below(25)], chance.below(4));
+                let element = Kind::ALL[chance.below(25)];
+                [kind.code(), if kind == Kind::Array { element.array_number(number as u32) } else { number as u64 }]
             });
             (words.collect(), Vec::new())
         } else {

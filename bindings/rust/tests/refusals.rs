@@ -1,5 +1,10 @@
 //! Every refusal, 1 to 14, with its place; and that lent memory keeps what it held.
-use afsungar::{measure, read, size, write, Reason, Refusal, Table, Task};
+use afsungar::{measure, read, size, write, Kind, Reason, Refusal, Table, Task};
+
+/// The number of an array's row: so many elements of this kind.
+const fn of(kind: u64, count: u64) -> u64 {
+    count + 4_294_967_296 * kind
+}
 
 /// Sizing and writing refuse alike, and the output stays.
 fn writing(words: &[u64], text: &[u8], reason: Reason, row: u64) {
@@ -43,9 +48,12 @@ fn too_deep_3() {
     writing(&words, &[], Reason::TooDeep, 32);
     reading(&[0; 32], Reason::TooDeep, 32);
     // Arrays, one in the other; and a list with a child as the last of them.
-    let mut words: Vec<u64> = [0xf0, 1].repeat(33);
+    let mut words: Vec<u64> = [0xf0, of(0xf0, 1)].repeat(33);
     writing(&words, &[], Reason::TooDeep, 32);
-    words.splice(62.., [0xd0, 1, 0x40, 0]);
+    words.splice(60.., [0xf0, of(0xd0, 1), 0xd0, 1, 0x40, 0]);
+    writing(&words, &[], Reason::TooDeep, 32);
+    // Of another kind than told, and telling no kind: the level comes first.
+    words.splice(60.., [0xf0, of(0xf0, 1), 0xf0, of(0x70, 1), 0xf0, 0]);
     writing(&words, &[], Reason::TooDeep, 32);
     // An array at level 31, whose element says that it has a child. None is there, and the level comes first.
     for code in [0xc0, 0xe0] {
@@ -56,13 +64,25 @@ fn too_deep_3() {
 
 #[test]
 fn element_unfit_4() {
-    writing(&[0xf0, 1, 0x40, 0], &[], Reason::ElementUnfit, 1);
-    writing(&[0xf0, 2, 0x70, 0, 0x71, 0], &[], Reason::ElementUnfit, 2);
-    // Unlike the first; described; and within elements that are arrays or lists, where each array has its own first.
-    writing(&[0xf0, 2, 0xd0, 0, 0xd1, 0], &[], Reason::ElementUnfit, 2);
-    writing(&[0xf0, 1, 0x00, 2, 0x40, 0, 0x40, 0], &[], Reason::ElementUnfit, 1);
-    writing(&[0xf0, 2, 0xf0, 1, 0x50, 5, 0xf0, 2, 0x56, 1, 0x50, 0], &[], Reason::ElementUnfit, 5);
-    writing(&[0xf0, 1, 0xd0, 1, 0xf0, 1, 0x40, 0], &[], Reason::ElementUnfit, 3);
+    // Of another kind than told, the first too.
+    writing(&[0xf0, of(0x70, 1), 0x71, 0], &[], Reason::ElementUnfit, 1);
+    writing(&[0xf0, of(0x70, 2), 0x70, 0, 0x71, 0], &[], Reason::ElementUnfit, 2);
+    writing(&[0xf0, of(0x70, 2), 0x71, 0, 0x71, 0], &[], Reason::ElementUnfit, 1);
+    writing(&[0xf0, of(0xd0, 2), 0xd0, 0, 0xd1, 0], &[], Reason::ElementUnfit, 2);
+    // Null and described, which no array can tell.
+    writing(&[0xf0, of(0x70, 1), 0x40, 0], &[], Reason::ElementUnfit, 1);
+    writing(&[0xf0, of(0xd0, 1), 0x00, 2, 0x40, 0, 0x40, 0], &[], Reason::ElementUnfit, 1);
+    // Within elements that are arrays or lists, where each array tells its own kind.
+    let inner = [0xf0, of(0xf0, 2), 0xf0, of(0x50, 1), 0x50, 5, 0xf0, of(0x56, 2), 0x56, 1, 0x50, 0];
+    writing(&inner, &[], Reason::ElementUnfit, 5);
+    writing(&[0xf0, of(0xd0, 1), 0xd0, 1, 0xf0, of(0xf0, 1), 0x40, 0], &[], Reason::ElementUnfit, 3);
+    // Null is told: at the array, whatever its count, and whatever is behind it.
+    for count in [0, 1, 1_048_577, 4_294_967_295] {
+        writing(&[0xf0, of(0x40, count)], &[], Reason::ElementUnfit, 0);
+        writing(&[0xf0, of(0x40, count), 0x40, 0], &[], Reason::ElementUnfit, 0);
+        writing(&[0xd0, 2, 0x40, 0, 0xf0, of(0x40, count)], &[], Reason::ElementUnfit, 2);
+        writing(&[0xf0, of(0xf0, 1), 0xf0, of(0x40, count)], &[], Reason::ElementUnfit, 1);
+    }
     for code in (0x40..=0x45).chain([0x00]) {
         reading(&[0xe0, 0x02, 0x01, code], Reason::ElementUnfit, 0);
         reading(&[0xe0, 0x02, 0x00, code], Reason::ElementUnfit, 0);
@@ -92,6 +112,25 @@ fn number_outside_5() {
     ] {
         writing(&bad, &[], Reason::NumberOutside, 0);
         writing(&[0xd0, 1, bad[0], bad[1]], &[], Reason::NumberOutside, 1);
+    }
+}
+
+#[test]
+fn number_outside_5_in_arrays() {
+    let mut bad = vec![of(0x70, 1_048_577), of(0xf0, u64::from(u32::MAX)), u64::MAX];
+    // Not told, with elements behind it or not; the same number would tell described.
+    bad.extend([0, 1, 2, 1_048_577]);
+    // What is no kind: the codes of short forms, and what has the code of a kind in its lowest byte.
+    bad.extend((1..=0xff).filter(|&code| Kind::from_code(code).is_none()).map(|code| of(code, 0)));
+    bad.extend([0x100, 0x140, 0x170, 0x8000_0070, 0xffff_ff70].map(|code| of(code, 1)));
+    for number in bad {
+        writing(&[0xf0, number], &[], Reason::NumberOutside, 0);
+        writing(&[0xf0, number, 0x70, 0], &[], Reason::NumberOutside, 0);
+        writing(&[0xf0, number, 0x00, 2, 0x40, 0, 0x40, 0], &[], Reason::NumberOutside, 0);
+        writing(&[0xd0, 2, 0x40, 0, 0xf0, number], &[], Reason::NumberOutside, 2);
+        writing(&[0xf0, of(0xf0, 1), 0xf0, number], &[], Reason::NumberOutside, 1);
+        // As an element of another kind than told it is that first.
+        writing(&[0xf0, of(0x70, 1), 0xf0, number], &[], Reason::ElementUnfit, 1);
     }
 }
 

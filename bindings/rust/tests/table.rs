@@ -2,7 +2,7 @@
 use std::fs;
 use std::path::Path;
 
-use afsungar::{read, values, Builder, Extent, Kind, Mismatch, Reason, Refusal, Row, Table, Value, Walker};
+use afsungar::{read, values, Builder, Element, Extent, Kind, Mismatch, Reason, Refusal, Row, Table, Value, Walker};
 
 fn all_kinds() -> Table {
     Table::build(|t| {
@@ -14,7 +14,7 @@ fn all_kinds() -> Table {
             t.decimal32(0xf000_0001).decimal64(u64::MAX - 1).decimal128([9; 16]);
             t.char('Ø').timestamp(-1).uuid(*b"0123456789abcdef");
             t.binary([0xff, 0x00]).string("Ø1.2").symbol("ear-shell");
-            t.list(|_| {}).map(|_| {}).array(|_| {});
+            t.list(|_| {}).map(|_| {}).empty_array(Kind::Timestamp);
             t.map(|t| {
                 t.symbol("left").list(|t| {
                     t.null().null();
@@ -55,7 +55,7 @@ fn all_values() -> Vec<Value<'static>> {
         Symbol("ear-shell"),
         List(0),
         Map(0),
-        Array(0),
+        Array { count: 0, element: Some(Kind::Timestamp) },
         Map(4),
         Symbol("left"),
         List(2),
@@ -64,7 +64,7 @@ fn all_values() -> Vec<Value<'static>> {
         Null,
         Described,
         Symbol("d"),
-        Array(3),
+        Array { count: 3, element: Some(Kind::String) },
         String("Ø1.2"),
         String(""),
         String("M4"),
@@ -124,21 +124,21 @@ fn children() {
 fn item_by_item() -> Table {
     Table::build(|t| {
         t.list(|t| {
-            t.array(|t| {
+            t.array(Kind::List, |t| {
                 for (size, across) in [("Ø1.2", 35), ("M4", -12)] {
                     t.list(|t| {
                         t.string(size).int(across);
                     });
                 }
             });
-            t.array(|t| {
+            t.array(Kind::Map, |t| {
                 t.map(|t| {
                     t.symbol("left").uint(2).symbol("right").uint(1);
                 });
                 t.map(|_| {});
             });
-            t.array(|t| {
-                t.array_of([1u8, 2]).array(|_| {}).array_of([3u8]);
+            t.array(Kind::Array, |t| {
+                t.array_of([1u8, 2]).empty_array(Kind::Ubyte).array_of([3u8]);
             });
         });
     })
@@ -184,7 +184,7 @@ fn tables_as_elements() {
     // A table that is a list counts as one element, as does a list that says how many values come next.
     let part = all_kinds();
     let array = Table::build(|t| {
-        t.array(|t| {
+        t.array(Kind::List, |t| {
             t.table(&part).list(|_| {}).table(&part);
             t.push(Value::List(1)).array_of_lists([[part.len() as u64]]);
         });
@@ -193,18 +193,214 @@ fn tables_as_elements() {
     assert_eq!(Table::from_bytes(&array.to_bytes().unwrap()), Ok(array));
 }
 
+/// Why no array can tell this kind: null is none of its kinds, and described has the number of what is not told.
+fn untellable(kind: Kind) -> Option<Reason> {
+    match kind {
+        Kind::Null => Some(Reason::ElementUnfit),
+        Kind::Described => Some(Reason::NumberOutside),
+        _ => None,
+    }
+}
+
 #[test]
 fn elements() {
     for kind in Kind::ALL {
         let text = vec![0; if matches!(kind, Kind::Decimal128 | Kind::Uuid) { 16 } else { 0 }];
+        // As an array within it tells a kind.
+        let number = if kind == Kind::Array { Kind::Long.array_number(0) } else { 0 };
         let array = Table::build(|t| {
-            t.array(|t| {
-                t.row(kind.code(), 0, &text);
+            t.array(kind, |t| {
+                t.row(kind.code(), number, &text);
             });
         });
-        let due = Refusal::writing(Reason::ElementUnfit, 1);
-        assert_eq!(array.size().err(), (!kind.is_element()).then_some(due), "{kind}");
+        assert_eq!(untellable(kind).is_none(), kind.is_element());
+        let due = untellable(kind).map(|reason| Refusal::writing(reason, 0));
+        assert_eq!(array.size().err(), due, "{kind}");
+        if due.is_none() {
+            assert_eq!(Table::from_bytes(&array.to_bytes().unwrap()), Ok(array));
+        }
     }
+}
+
+#[test]
+fn empty_arrays_of_each_kind() {
+    for kind in Kind::ALL {
+        let code = kind.code() as u8;
+        let array = Table::build(|t| {
+            t.empty_array(kind);
+        });
+        let arrays = Table::build(|t| {
+            t.array(Kind::Array, |t| {
+                t.array(kind, |_| {}).table(&array);
+            });
+        });
+        assert_eq!(array.words(), [0xf0, 4_294_967_296 * u64::from(code)]);
+        if let Some(reason) = untellable(kind) {
+            assert_eq!(array.to_bytes(), Err(Refusal::writing(reason, 0)));
+            assert_eq!(arrays.to_bytes(), Err(Refusal::writing(reason, 1)));
+            continue;
+        }
+        let bytes = array.to_bytes().unwrap();
+        assert_eq!(bytes, [0xe0, 0x02, 0x00, code]);
+        let again = Table::from_bytes(&bytes).unwrap();
+        assert_eq!(again.values(), Ok(vec![Value::Array { count: 0, element: Some(kind) }]));
+        assert_eq!(again, array);
+
+        let inner = [0, 0, 0, 5, 0, 0, 0, 0, code];
+        let bytes = arrays.to_bytes().unwrap();
+        assert_eq!(bytes, [&[0xe0, 0x14, 0x02, 0xf0], &inner[..], &inner[..]].concat());
+        let again = Table::from_bytes(&bytes).unwrap();
+        assert!(again.rows().map(|row| row.element_kind()).eq([Some(Kind::Array), Some(kind), Some(kind)]));
+        assert_eq!(again, arrays);
+    }
+}
+
+/// The 33 element codes, each with the kind that it tells.
+fn element_codes() -> impl Iterator<Item = (u8, Kind)> {
+    let short = [
+        (0x52, Kind::Uint),
+        (0x53, Kind::Ulong),
+        (0x54, Kind::Int),
+        (0x55, Kind::Long),
+        (0xa0, Kind::Binary),
+        (0xa1, Kind::String),
+        (0xa3, Kind::Symbol),
+        (0xc0, Kind::List),
+        (0xc1, Kind::Map),
+        (0xe0, Kind::Array),
+    ];
+    let own = Kind::ALL.into_iter().filter(|kind| kind.is_element()).map(|kind| (kind.code() as u8, kind));
+    short.into_iter().chain(own)
+}
+
+#[test]
+fn each_element_code_tells_its_kind() {
+    assert_eq!(element_codes().count(), 33);
+    for (code, kind) in element_codes() {
+        let empty: [&[u8]; 2] = [&[0xe0, 0x02, 0x00, code], &[0xf0, 0, 0, 0, 5, 0, 0, 0, 0, code]];
+        for bytes in empty {
+            let array = Table::from_bytes(bytes).unwrap();
+            assert_eq!(array.words(), [0xf0, kind.array_number(0)], "{code:x}");
+            assert_eq!(array.to_bytes(), Ok(vec![0xe0, 0x02, 0x00, kind.code() as u8]), "{code:x}");
+        }
+        // With one element: as much of zero bytes as its code asks for, and for a compound a size that counts its count.
+        let payload: &[u8] = match code {
+            0xc0 | 0xc1 | 0xe0 => &[1, 0],
+            0xd0 | 0xd1 | 0xf0 => &[0, 0, 0, 4, 0, 0, 0, 0],
+            _ => &[0; 16][..[1, 2, 4, 8, 16, 1, 4][usize::from((code >> 4) - 5)]],
+        };
+        let bytes = [&[0xe0, payload.len() as u8 + 2, 0x01, code], payload].concat();
+        let array = Table::from_bytes(&bytes).unwrap();
+        assert_eq!(array.root().map(|root| (root.count(), root.element_kind())), Some((1, Some(kind))), "{code:x}");
+        assert_eq!(array.words()[..3], [0xf0, kind.array_number(1), kind.code()], "{code:x}");
+        // An array within it does not tell its kind, and is at row 1.
+        match array.to_bytes() {
+            Ok(bytes) => assert_eq!(Table::from_bytes(&bytes), Ok(array), "{code:x}"),
+            Err(refusal) => {
+                assert_eq!((refusal, kind), (Refusal::writing(Reason::NumberOutside, 1), Kind::Array), "{code:x}");
+            }
+        }
+    }
+}
+
+#[test]
+fn arrays_that_do_not_tell_their_kind() {
+    // Alone in both forms, in a list between other values, and in an array beside one that tells it.
+    let bytes: [(&[u8], usize); 4] = [
+        (&[0xe0, 0x01, 0x00], 0),
+        (&[0xf0, 0, 0, 0, 4, 0, 0, 0, 0], 0),
+        (&[0xc0, 0x06, 0x03, 0x40, 0xe0, 0x01, 0x00, 0x40], 2),
+        (&[0xe0, 0x07, 0x02, 0xe0, 0x02, 0x00, 0x70, 0x01, 0x00], 2),
+    ];
+    for (bytes, at) in bytes {
+        let table = Table::from_bytes(bytes).unwrap();
+        let not_told = Value::Array { count: 0, element: None };
+        let mut values = table.values().unwrap();
+        assert_eq!((not_told.number(), values[at]), (0, not_told));
+        assert_eq!(table.rows().nth(at).and_then(|row| row.element_kind()), None);
+        assert_eq!(values.iter().copied().collect::<Table>(), table);
+        let refusal = Refusal::writing(Reason::NumberOutside, at as u64);
+        assert_eq!((table.size(), table.to_bytes()), (Err(refusal), Err(refusal)));
+
+        // With the kind put in it is written.
+        values[at] = Value::Array { count: 0, element: Some(Kind::Decimal32) };
+        let told: Table = values.into_iter().collect();
+        assert_eq!(Table::from_bytes(&told.to_bytes().unwrap()), Ok(told));
+    }
+}
+
+#[test]
+fn the_type_tells_the_kind() {
+    fn told<'a, E: Element<'a>>(kind: Kind) {
+        let none = Table::build(|t| {
+            t.array_of::<E>([]);
+        });
+        assert_eq!((E::KIND, none), (kind, Table::from(Value::Array { count: 0, element: Some(kind) })));
+        let arrays = Table::build(|t| {
+            t.array_of_arrays::<E>([[], []]).array_of_arrays::<E>([[]; 0]);
+        });
+        let [array, of, none] = [Kind::Array.array_number(2), kind.array_number(0), Kind::Array.array_number(0)];
+        assert_eq!(arrays.words(), [0xf0, array, 0xf0, of, 0xf0, of, 0xf0, none]);
+    }
+    told::<bool>(Kind::Boolean);
+    told::<u8>(Kind::Ubyte);
+    told::<u16>(Kind::Ushort);
+    told::<u32>(Kind::Uint);
+    told::<u64>(Kind::Ulong);
+    told::<i8>(Kind::Byte);
+    told::<i16>(Kind::Short);
+    told::<i32>(Kind::Int);
+    told::<i64>(Kind::Long);
+    told::<f32>(Kind::Float);
+    told::<f64>(Kind::Double);
+    told::<char>(Kind::Char);
+    told::<&str>(Kind::String);
+    told::<&String>(Kind::String);
+    told::<&[u8]>(Kind::Binary);
+    told::<&[u8; 3]>(Kind::Binary);
+    told::<&Vec<u8>>(Kind::Binary);
+
+    // The values of a type have the kind that it tells.
+    let (string, bytes) = (String::from("M4"), vec![7]);
+    let arrays = Table::build(|t| {
+        t.list(|t| {
+            t.array_of([true]).array_of([1u8]).array_of([1u16]).array_of([1u32]).array_of([1u64]);
+            t.array_of([1i8]).array_of([1i16]).array_of([1i32]).array_of([1i64]).array_of([1f32]).array_of([1f64]);
+            t.array_of(['Ø']).array_of(["M4"]).array_of([&string]);
+            t.array_of([&bytes[..]]).array_of([b"abc"]).array_of([&bytes]);
+        });
+    });
+    assert_eq!(arrays.root().map(|list| list.count()), Some(17));
+    assert_eq!(Table::from_bytes(&arrays.to_bytes().unwrap()), Ok(arrays));
+}
+
+#[test]
+fn arrays_of_no_lists_maps_and_arrays() {
+    let table = Table::build(|t| {
+        t.list(|t| {
+            t.array_of_lists::<u32>([[]; 0]).array_of_maps::<u32, &str>([[]; 0]).array_of_arrays::<u32>([[]; 0]);
+        });
+    });
+    let none = |element| Value::Array { count: 0, element: Some(element) };
+    let arrays = [Kind::List, Kind::Map, Kind::Array].map(none);
+    assert_eq!(table.root().unwrap().child_values(), Ok(arrays.to_vec()));
+    let bytes = table.to_bytes().unwrap();
+    assert_eq!(bytes[3..], [0xe0, 0x02, 0x00, 0xd0, 0xe0, 0x02, 0x00, 0xd1, 0xe0, 0x02, 0x00, 0xf0]);
+    assert_eq!(Table::from_bytes(&bytes), Ok(table));
+}
+
+#[test]
+fn a_count_does_not_change_the_kind() {
+    // What is too much for the row stays too much, and is refused.
+    for count in [1_048_577, u32::MAX as usize, 1 << 32, usize::MAX] {
+        let array = Value::Array { count, element: Some(Kind::Uint) };
+        let number = Kind::Uint.array_number(count.min(u32::MAX as usize) as u32);
+        assert_eq!((array.number(), array.count()), (number, count));
+        let table = Table::from(array);
+        assert_eq!(table.to_bytes(), Err(Refusal::writing(Reason::NumberOutside, 0)));
+        assert_eq!(table.root().and_then(|root| root.element_kind()), Some(Kind::Uint));
+    }
+    assert_eq!(Value::Array { count: 1_048_576, element: Some(Kind::Uint) }.number(), 0x70_0010_0000);
 }
 
 #[test]
@@ -322,12 +518,41 @@ fn the_writer_says_which_row() {
     );
     refused(
         |t| {
-            t.array(|t| {
+            t.array(Kind::Uint, |t| {
                 t.uint(1).int(1);
             });
         },
         Reason::ElementUnfit,
         2,
+    );
+    refused(
+        |t| {
+            t.array(Kind::Int, |t| {
+                t.uint(1);
+            });
+        },
+        Reason::ElementUnfit,
+        1,
+    );
+    refused(
+        |t| {
+            t.array(Kind::Null, |t| {
+                t.null();
+            });
+        },
+        Reason::ElementUnfit,
+        0,
+    );
+    refused(
+        |t| {
+            t.array(Kind::Described, |t| {
+                t.described(|t| {
+                    t.null().null();
+                });
+            });
+        },
+        Reason::NumberOutside,
+        0,
     );
     refused(
         |t| {
@@ -377,6 +602,50 @@ fn bad_tables_can_be_looked_at() {
     assert!(format!("{table:?}").ends_with("lone word 64]"), "{table:?}");
     assert!(format!("{:?}", Table::from_parts(vec![], vec![1])).contains("text left [1]"));
     assert_eq!(table.clone().into_parts(), (words, vec![0xc3, b'a']));
+}
+
+#[test]
+fn bad_arrays_can_be_looked_at() {
+    // What the row tells is refused as the writer does it; its children are there all the same.
+    let rows = [
+        (Kind::Null.array_number(2), Reason::ElementUnfit, 0),
+        (2, Reason::NumberOutside, 0),
+        (Kind::Described.array_number(2), Reason::NumberOutside, 0),
+        (0x52 << 32 | 2, Reason::NumberOutside, 0),
+        (0x170 << 32 | 2, Reason::NumberOutside, 0),
+    ];
+    for (number, reason, row) in rows {
+        let table = Table::from_parts(vec![0xf0, number, 0x40, 0, 0x40, 0], vec![]);
+        let root = table.root().unwrap();
+        assert_eq!(root.value(), Err(Refusal::writing(reason, row)), "{number:x}");
+        assert_eq!(table.to_bytes(), Err(Refusal::writing(reason, row)), "{number:x}");
+        assert_eq!((root.count(), root.children().count(), root.element_kind()), (2, 2, None), "{number:x}");
+        assert_eq!(format!("{root:?}"), format!("bad row f0:{number} []"));
+    }
+    // An element of another kind than told is no fault of its own row, nor is a count above the writer's limit.
+    let table = Table::from_parts(vec![0xf0, Kind::Uint.array_number(u32::MAX), 0x40, 0], vec![]);
+    let array = Value::Array { count: u32::MAX as usize, element: Some(Kind::Uint) };
+    assert_eq!(table.values(), Ok(vec![array, Value::Null]));
+    assert_eq!(format!("{table:?}"), "Table [Array { count: 4294967295, element: Some(Uint) }, Null]");
+    assert_eq!(table.root().unwrap().children().count(), 1);
+    // No other row has a kind of elements, whatever its number.
+    let list = Table::from_parts(vec![0xd0, Kind::Uint.array_number(1), 0x80, Kind::Uint.array_number(1)], vec![]);
+    assert!(list.rows().all(|row| row.element_kind().is_none()));
+}
+
+#[test]
+fn rows_as_they_stand() {
+    // An array that `row` puts in counts as one value, with as many as it says of those that come next.
+    let table = Table::build(|t| {
+        t.list(|t| {
+            t.row(0xf0, Kind::Ubyte.array_number(2), []).ubyte(1).ubyte(2);
+            t.push(Value::Array { count: 1, element: Some(Kind::Array) }).empty_array(Kind::Map);
+            t.row(0xf0, 1, []).null().null();
+        });
+    });
+    assert_eq!(table.root().map(|root| root.count()), Some(4));
+    let counts: Vec<usize> = table.root().unwrap().children().map(|child| child.count()).collect();
+    assert_eq!(counts, [2, 1, 1, 0]);
 }
 
 #[test]
@@ -463,8 +732,10 @@ fn short_and_wide_forms_are_read_alike() {
     let list: [&[u8]; 3] = [&[0x45], &[0xc0, 0x01, 0x00], &[0xd0, 0, 0, 0, 4, 0, 0, 0, 0]];
     assert!(list.iter().all(|bytes| Table::from_bytes(bytes) == Ok(Table::from(Value::List(0)))));
     let element = [0xe0, 0x03, 0x01, 0x54, 0x80];
-    assert_eq!(Table::from_bytes(&element).unwrap().values(), Ok(vec![Value::Array(1), Value::Int(-128)]));
-    let two: Table = [Value::Array(2), Value::List(0), Value::List(0)].into_iter().collect();
+    let array = Value::Array { count: 1, element: Some(Kind::Int) };
+    assert_eq!(Table::from_bytes(&element).unwrap().values(), Ok(vec![array, Value::Int(-128)]));
+    let array = Value::Array { count: 2, element: Some(Kind::List) };
+    let two: Table = [array, Value::List(0), Value::List(0)].into_iter().collect();
     assert_eq!(Table::from_bytes(&[0xe0, 0x06, 0x02, 0xc0, 0x01, 0x00, 0x01, 0x00]), Ok(two.clone()));
     assert_eq!(Table::from_bytes(&two.to_bytes().unwrap()), Ok(two));
     // A text of 255 bytes is read in the one-byte form, and written in the other.

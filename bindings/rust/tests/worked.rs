@@ -1,10 +1,15 @@
 //! The worked examples of docs/FORMAT.md, 10.
-use afsungar::{measure, read_to_table, Builder, Extent, Reason, Refusal, Table, Value};
+use afsungar::{measure, read_to_table, Builder, Extent, Kind, Reason, Refusal, Table, Value};
 
 /// Two hex digits a byte; spaces do not count.
 fn hex(digits: &str) -> Vec<u8> {
     let digits: Vec<u8> = digits.bytes().filter(|&b| b != b' ').collect();
     digits.chunks(2).map(|two| u8::from_str_radix(std::str::from_utf8(two).unwrap(), 16).unwrap()).collect()
+}
+
+/// The number of an array's row: so many elements of this kind.
+const fn of(kind: u64, count: u64) -> u64 {
+    count + 4_294_967_296 * kind
 }
 
 /// Written to these bytes, and read back to the same.
@@ -51,8 +56,8 @@ fn empty_map_and_empty_array() {
     written(&[0xd1, 0], "", "c1 01 00", |t| {
         t.map(|_| {});
     });
-    written(&[0xf0, 0], "", "e0 01 00", |t| {
-        t.array(|_| {});
+    written(&[0xf0, 481_036_337_152], "", "e0 02 00 70", |t| {
+        t.empty_array(Kind::Uint);
     });
 }
 
@@ -67,14 +72,14 @@ fn map_of_symbol_to_uint() {
 
 #[test]
 fn array_of_uint() {
-    written(&[0xf0, 2, 0x70, 0, 0x70, 1], "", "e0 0a 02 70 00 00 00 00 00 00 00 01", |t| {
+    written(&[0xf0, 481_036_337_154, 0x70, 0, 0x70, 1], "", "e0 0a 02 70 00 00 00 00 00 00 00 01", |t| {
         t.array_of([0u32, 1]);
     });
 }
 
 #[test]
 fn array_of_string() {
-    written(&[0xf0, 1, 0xb1, 5], "c3 98 31 2e 32", "e0 0b 01 b1 00 00 00 05 c3 98 31 2e 32", |t| {
+    written(&[0xf0, of(0xb1, 1), 0xb1, 5], "c3 98 31 2e 32", "e0 0b 01 b1 00 00 00 05 c3 98 31 2e 32", |t| {
         t.array_of(["Ø1.2"]);
     });
 }
@@ -82,17 +87,17 @@ fn array_of_string() {
 #[test]
 fn array_of_lists() {
     let bytes = "e0 17 02 d0 00 00 00 06 00 00 00 01 52 01 00 00 00 07 00 00 00 02 52 02 43";
-    written(&[0xf0, 2, 0xd0, 1, 0x70, 1, 0xd0, 2, 0x70, 2, 0x70, 0], "", bytes, |t| {
+    written(&[0xf0, of(0xd0, 2), 0xd0, 1, 0x70, 1, 0xd0, 2, 0x70, 2, 0x70, 0], "", bytes, |t| {
         t.array_of_lists([vec![1u32], vec![2, 0]]);
     });
     let bytes = "e0 1b 03 d0 00 00 00 04 00 00 00 00 00 00 00 05 00 00 00 01 40 00 00 00 04 00 00 00 00";
-    written(&[0xf0, 3, 0xd0, 0, 0xd0, 1, 0x40, 0, 0xd0, 0], "", bytes, |t| {
+    written(&[0xf0, of(0xd0, 3), 0xd0, 0, 0xd0, 1, 0x40, 0, 0xd0, 0], "", bytes, |t| {
         t.array_of_lists([vec![], vec![()], vec![]]);
     });
     // A list within an element has a code of its own, and the short form.
     let bytes = "e0 0e 01 d0 00 00 00 08 00 00 00 01 c0 02 01 40";
-    written(&[0xf0, 1, 0xd0, 1, 0xd0, 1, 0x40, 0], "", bytes, |t| {
-        t.array(|t| {
+    written(&[0xf0, of(0xd0, 1), 0xd0, 1, 0xd0, 1, 0x40, 0], "", bytes, |t| {
+        t.array(Kind::List, |t| {
             t.list(|t| {
                 t.list_of([()]);
             });
@@ -103,7 +108,7 @@ fn array_of_lists() {
 #[test]
 fn array_of_maps() {
     let bytes = "e0 17 02 d1 00 00 00 09 00 00 00 02 a3 01 76 52 02 00 00 00 04 00 00 00 00";
-    written(&[0xf0, 2, 0xd1, 2, 0xb3, 1, 0x70, 2, 0xd1, 0], "76", bytes, |t| {
+    written(&[0xf0, of(0xd1, 2), 0xd1, 2, 0xb3, 1, 0x70, 2, 0xd1, 0], "76", bytes, |t| {
         t.array_of_maps([vec![(Value::Symbol("v"), 2u32)], vec![]]);
     });
 }
@@ -111,13 +116,17 @@ fn array_of_maps() {
 #[test]
 fn array_of_arrays() {
     let bytes = "e0 17 02 f0 00 00 00 06 00 00 00 01 50 05 00 00 00 07 00 00 00 02 56 01 00";
-    written(&[0xf0, 2, 0xf0, 1, 0x50, 5, 0xf0, 2, 0x56, 1, 0x56, 0], "", bytes, |t| {
-        t.array(|t| {
+    let words = [0xf0, of(0xf0, 2), 0xf0, of(0x50, 1), 0x50, 5, 0xf0, of(0x56, 2), 0x56, 1, 0x56, 0];
+    written(&words, "", bytes, |t| {
+        t.array(Kind::Array, |t| {
             t.array_of([5u8]).array_of([true, false]);
         });
     });
-    written(&[0xf0, 2, 0xf0, 0, 0xf0, 0], "", "e0 12 02 f0 00 00 00 04 00 00 00 00 00 00 00 04 00 00 00 00", |t| {
-        t.array_of_arrays([[0u8; 0]; 2]);
+    let bytes = "e0 14 02 f0 00 00 00 05 00 00 00 00 70 00 00 00 05 00 00 00 00 b1";
+    written(&[0xf0, of(0xf0, 2), 0xf0, of(0x70, 0), 0xf0, of(0xb1, 0)], "", bytes, |t| {
+        t.array(Kind::Array, |t| {
+            t.array_of::<u32>([]).array_of::<&str>([]);
+        });
     });
 }
 
@@ -154,18 +163,19 @@ fn lists_in_lists() {
 }
 
 fn arrays(t: &mut Builder, levels: usize) {
-    t.array(|t| {
-        if levels > 1 {
-            arrays(t, levels - 1);
-        }
-    });
+    if levels > 1 {
+        t.array(Kind::Array, |t| arrays(t, levels - 1));
+    } else {
+        t.empty_array(Kind::Uint);
+    }
 }
 
 #[test]
 fn arrays_in_arrays() {
     let table = Table::build(|t| arrays(t, 32));
     let bytes = table.to_bytes().unwrap();
-    assert_eq!(bytes.len(), 288);
+    assert_eq!(table.words()[60..], [0xf0, of(0xf0, 1), 0xf0, of(0x70, 0)]);
+    assert_eq!(bytes.len(), 289);
     assert_eq!(Table::from_bytes(&bytes), Ok(table));
 
     let table = Table::build(|t| arrays(t, 33));
@@ -252,7 +262,14 @@ fn read() {
     assert_eq!(
         read_to_table(&hex("e0 02 00 70")),
         Ok(Table::build(|t| {
-            t.array(|_| {});
+            t.empty_array(Kind::Uint);
+        }))
+    );
+    assert_eq!(measure(&hex("e0 01 00")), Ok(Extent { length: 3, rows: 1, text: 0 }));
+    assert_eq!(
+        read_to_table(&hex("e0 01 00")),
+        Ok(Table::build(|t| {
+            t.push(Value::Array { count: 0, element: None });
         }))
     );
     assert_eq!(
@@ -268,4 +285,6 @@ fn listed() {
     let bytes = hex("c1 06 02 a3 01 76 52 02");
     let table = read_to_table(&bytes).unwrap();
     assert_eq!(format!("{table}end {}\n", bytes.len()), "0 d1 2\n1 b3 1\n2 70 2\nend 8\n");
+    // An array's number is listed as it is.
+    assert_eq!(read_to_table(&hex("e0 02 00 70")).unwrap().to_string(), "0 f0 481036337152\n");
 }
