@@ -50,11 +50,11 @@ pub record Demand2 : Type 0 where
   -- what was written is read back to the table that it was written from, whatever stands behind it
   pub back : (w x o z u y : List ℕ) (r : writer.Outcome) (s : reader.Outcome) (n : ℕ) → WritePromise w x o r → r .answer ≡ Length n → ReadPromise (take n (r .out) ++ z) u y s
       → length w ≤ length u → length x ≤ length y → gave s ≡ record { answer = got (record { length = n; rows = length w / 2; text = length x }); words = over w u; letters = over x y }
-  -- a well-formed value within the writer's limits can be written, and is read back to the same rows and text
+  -- a well-formed value within the writer's limits can be written, and is read back to the same rows and text; among the limits is that each array tells its elements' kind
   pub again : (v : Tree) (a o z w x : List ℕ) (r : writer.Outcome) (s : reader.Outcome) → WritePromise (rows v) (text v) o r → ReadPromise (encode v ++ z) w x s
       → Bytes a → Formed levelMost v a → Limited (rows v) → length (encode v) ≤ most → length (encode v) ≤ length o → 2 * tall v ≤ length w → length (text v) ≤ length x
       → (wrote r ≡ laws.wrote-over (encode v) o) × (gave s ≡ laws.gave-over v (length (encode v)) w x)
-  -- and nothing beyond the limits is written
+  -- and nothing beyond the limits is written: no empty array that was read without an element code
   pub limits : (w x o : List ℕ) (r : writer.Outcome) (n : ℕ) → WritePromise w x o r → r .answer ≡ Length n → Limited w × (n ≤ most)
 
 -- The proofs

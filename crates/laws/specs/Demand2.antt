@@ -68,7 +68,8 @@ pub record Demand2 : Type 0 where
   -- what was written is read back to the table that it was written from, whatever stands behind it
   pub back : (l : ℕ) (w x o : List ℕ) (n : ℕ) → write l w x o .answer ≡ got n → (z u y : List ℕ) → length w ≤ length u → length x ≤ length y
       → read l (take n (write l w x o .out) ++ z) u y ≡ record { answer = got (record { length = n; rows = length w / 2; text = length x }); words = over w u; letters = over x y }
-  -- what was read is written, where it is within the writer's limits, and is read again as the same value; nothing beyond the limits is written
+  -- what was read is written, where it is within the writer's limits, and is read again as the same value; nothing beyond the limits is written. Among the limits is
+  -- that each array tells its elements' kind: an empty array that was read without an element code cannot be written again
   pub again : (l : ℕ) (v : Tree) (a o z w x : List ℕ) → Bytes a → Formed l v a → Limited (rows v) → length (encode v) ≤ most → length (encode v) ≤ length o → 2 * tall v ≤ length w → length (text v) ≤ length x
       → (write l (rows v) (text v) o ≡ wrote-over (encode v) o) × (read l (encode v ++ z) w x ≡ gave-over v (length (encode v)) w x)
   pub limits : (l : ℕ) (w x o : List ℕ) (n : ℕ) → write l w x o .answer ≡ got n → Limited w × (n ≤ most)
