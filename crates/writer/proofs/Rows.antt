@@ -21,7 +21,7 @@ use Rattle.laws.specs.Bounds.{rows*-length}
 use Rattle.laws.specs.Numbers.{length-be, unbe-be}
 use Rattle.laws.specs.Stores.{sets-append}
 use Rattle.laws.specs.Written.{form-some, item-form, well-formed}
-use Rattle.writer.specs.Heads.{enclosure, head, itemHead, itemWidth, bodyOf, Mode, values, elements, modeIs, modeOf, inside, headIn, written, written*}
+use Rattle.writer.specs.Heads.{enclosure, head, itemHead, itemWidth, bodyOf, Mode, values, elements, modeIs, modeOf, headIn, written}
 use Rattle.writer.specs.Marks.{markWidth, marks, marks*}
 use Rattle.writer.specs.Sizing.{sizeIn}
 use Rattle.writer.specs.Direct.{isListOrMap, isArrayed}
@@ -32,7 +32,7 @@ use Rattle.writer.proofs.Bodies.{enclosed-width, item-wide, empty-body,
 use Rattle.writer.proofs.Joined.{join, rows-join, text-join, marks-join, bytes-join, valid-join, deeper*}
 use Rattle.writer.proofs.Spots.{Sure, sure-inside, spot-fits, row-bytes}
 use Rattle.writer.proofs.Stores.{drop-sets}
-use Rattle.writer.proofs.Sums.{sizeOf, more-size}
+use Rattle.writer.proofs.Sums.{sizeOf, more-size, body-is, body-size, few}
 use Rattle.writer.proofs.Onward.{two}
 
 -- Styles
@@ -51,20 +51,20 @@ row-of (arrayed s) n b = (refl, refl, refl)
 row-of describing n b = (refl, refl, refl)
 
 -- the children of arrays are elements, those of other rows values
-kids : (s : Style) (n : ℕ) → (spotIn s n ≡ if (isArrayed s) (like (kindIn n)) any) × ((cs : Trees) → bodyOf s cs ≡ written* (inside s n) cs)
-unfolding spotIn bodyOf modeOf
-kids foreign n = (refl, λ cs. refl)
-kids (numbered s w) n = (refl, λ cs. refl)
-kids (blob w) n = (refl, λ cs. refl)
-kids (lettered s) n = (refl, λ cs. refl)
-kids (listed e s) n = (refl, λ cs. refl)
-kids (mapped s) n = (refl, λ cs. refl)
-kids (arrayed s) n = (refl, λ cs. refl)
-kids describing n = (refl, λ cs. refl)
+kids : (s : Style) (n : ℕ) → spotIn s n ≡ if (isArrayed s) (like (kindIn n)) any
+unfolding spotIn
+kids foreign n = refl
+kids (numbered s w) n = refl
+kids (blob w) n = refl
+kids (lettered s) n = refl
+kids (listed e s) n = refl
+kids (mapped s) n = refl
+kids (arrayed s) n = refl
+kids describing n = refl
 
 kids-values : (s : Style) (n : ℕ) → isArrayed s ≡ false → (spotIn s n ≡ any) × ((cs : Trees) → bodyOf s cs ≡ encode* cs)
 unfolding modeOf
-kids-values s n e = let d : spotIn s n ≡ any = kids s n .0 ∙ rw e in (d, λ cs. kids s n .1 cs ∙ rw d)
+kids-values s n e = let d : spotIn s n ≡ any = kids s n ∙ rw e in (d, λ cs. body-is s n cs ∙ rw d)
 
 -- of the kinds that arrays may hold, those from d0 on are lists, maps and arrays
 boxKind : ℕ → Style → Bool
@@ -120,9 +120,6 @@ marked-head m s k n cs f h = ⊎-elim (λ e. rw e (go m)) (λ e. rw e) (mark-tel
 
 -- Marks are no more than the bytes of what has them
 
-few : (n m : ℕ) → 3 ≤ m → if (eqb n 0) 0 3 ≤ m
-few n m h = if-case (λ (z : ℕ). z ≤ m) (eqb n 0) 0 3 (λ t. omega arith) (λ t. omega arith)
-
 enclosure-long : (s k n b : ℕ) → 3 ≤ length (enclosure s k n b)
 enclosure-long s k n b = rw (enclosed-width s k n b) (if-case (λ (z : ℕ). 3 ≤ z) (ltb b shortEnd) 3 9 (λ t. omega arith) (λ t. omega arith))
 
@@ -132,15 +129,15 @@ head-long foreign k n b = (omega arith, omega arith)
 head-long (numbered s w) k n b = (omega arith, omega arith)
 head-long (blob w) k n b = (omega arith, omega arith)
 head-long (lettered s) k n b = (omega arith, omega arith)
-head-long (listed e s) k n b = (go (eqb n 0), few n 8 (omega arith))
+head-long (listed e s) k n b = (go (eqb n 0), omega (arith, few 3 n))
   where
     go : (t : Bool) → if t 0 3 ≤ length (if t (e ∷ []) (enclosure s k n b))
     go true = omega arith
     go false = enclosure-long s k n b
-head-long (mapped s) k n b = (few n _ (enclosure-long s k n b), few n 8 (omega arith))
+head-long (mapped s) k n b = (omega (arith, few 3 n, enclosure-long s k n b), omega (arith, few 3 n))
 head-long (arrayed s) k n b =
     let e = length-append (enclosure s k (countIn n) (suc b)) (kindIn n % 256 ∷ []) in
-    (few (countIn n) _ (omega (arith, enclosure-long s k (countIn n) (suc b))), few (countIn n) 9 (omega arith))
+    (omega (arith, few 3 (countIn n), enclosure-long s k (countIn n) (suc b)), omega (arith, few 3 (countIn n)))
 head-long describing k n b = (omega arith, omega arith)
 
 mark-fits : (m : Mode) (s : Style) (k n b : ℕ) → markWidth s n ≤ length (headIn m s k n b)
@@ -161,7 +158,7 @@ mutual
         ap length (row-bytes c k n t cs p (h .0)),
         length-append f (t ++ b),
         length-append t b,
-        ap length (kids s n .1 cs),
+        body-size s n cs,
         mark-fits (modeOf c) s k n (length b),
         length-append (be (markWidth s n) (length b)) (marks* cs),
         length-be (markWidth s n) (length b),

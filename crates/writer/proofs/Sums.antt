@@ -21,7 +21,7 @@ use Rattle.laws.specs.Bounds.{rows-length}
 use Rattle.laws.specs.Numbers.{length-be}
 use Rattle.laws.specs.Stores.{sets-append, put-on}
 use Rattle.laws.specs.Tables.{tree-sound}
-use Rattle.writer.specs.Heads.{bodyOf, Mode, values, elements, modeOf, written, written*}
+use Rattle.writer.specs.Heads.{bodyOf, Mode, values, elements, modeOf, inside, written, written*}
 use Rattle.writer.specs.Marks.{markWidth, marks, marks*}
 use Rattle.writer.specs.Rows.{check}
 use Rattle.writer.specs.Sizing.{sizeIn, totalFrom, Marked, valuesAt, Finds, headSize, Within}
@@ -114,7 +114,7 @@ size-none c = go (modeOf c)
     go elements = refl
 
 -- the size of a row with its children: head, text and children
-pub body-is : (s : Style) (n : ℕ) (cs : Trees) → bodyOf s cs ≡ written* (modeOf (spotIn s n)) cs
+pub body-is : (s : Style) (n : ℕ) (cs : Trees) → bodyOf s cs ≡ written* (inside s n) cs
 unfolding bodyOf modeOf spotIn
 body-is foreign n cs = refl
 body-is (numbered s w) n cs = refl

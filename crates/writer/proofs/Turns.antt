@@ -308,9 +308,6 @@ Told l w x (Open k n) = Nest l any w k n × (eqb k 0xf0 ≡ false)
 Told l w x (Array j c) = (n : ℕ) × Nest l any w 0xf0 n × (kindIn n ≡ j) × (countIn n ≡ c)
 Told l w x Other = (i : ℕ) (x : List ℕ) (k n : ℕ) → check l any i w x ≡ got (k, n) → children (styleOf k) n ≡ 0
 
-pub no-array : (k : ℕ) → eqb k 0xf0 ≡ false → k ≡ 0xf0 → ⊥
-no-array k e f = subst T (rw f at e) tt
-
 not-T : (b : Bool) → T (not b) → b ≡ false
 not-T true t = absurd t
 not-T false t = refl

@@ -6,7 +6,7 @@ use mathlib.Core.Bool.{false}
 use mathlib.Core.Logic.{⊎-elim}
 use native.Mathlib.Omega.{arith}
 use borrow.Author.Needs.{needs}
-use borrow.Author.Tests.{ne-eqb}
+use borrow.Author.Tests.{eqb-false, ne-eqb}
 use borrow.Fn.Kinds.{In}
 use borrow.Fn.PlainCycle.{Measures, is, falls, and}
 use lib.Dec.{T, eqb}
@@ -18,7 +18,7 @@ use Rattle.writer.specs.InCode.{checkedIs, Styled}
 use Rattle.writer.specs.Sizing.{Finds, Nest, Within, past, inside}
 use Rattle.writer.proofs.Sizes.{countBy, spotBy}
 use Rattle.writer.proofs.Sums.{Comes, comes-self, comes-found, comes-no, finds-none}
-use Rattle.writer.proofs.Turns.{small, nest-told, no-array, nest-first, nest-sure, nest-no, nest-sums, nest-on, told-as, taken-deep, values-leaf, Rowed, other-rowed, element-on, deep-finds}
+use Rattle.writer.proofs.Turns.{small, nest-told, nest-first, nest-sure, nest-no, nest-sums, nest-on, told-as, taken-deep, values-leaf, Rowed, other-rowed, element-on, deep-finds}
 use Rattle.writer.proofs.sizing.size_children.Reads as size-children
 use Rattle.writer.proofs.sizing.size_children.Kinds as size-children-kinds
 use Rattle.writer.proofs.sizing.+size_children+size_elements+size_items+size_values.Lts-size_children as size-children-lts
@@ -263,7 +263,7 @@ unfolding modeOf countIn kindIn
     (λ c. search needs)
     (λ c. c .before .before .before .before .size-children .kept .1 .1 .1 .1 .1 .0 ∙ c .before .before .before .before .before .before .before .before .before .before .before .loop .inv .kept)
     (λ c. rw (c .enum-told .given .1) (nest-no (c .before .before .before .before .before .before .before .before .before .before .before .loop .inv) (c .before .before .before .before .before .before .before .before .before .before .loop-test .taken) _ _ (opened t (c .before .before .before .before .before .before .before) .0 .0 _ _) (opened t (c .before .before .before .before .before .before .before) .0 .1) _ (c .before .before .before .before .size-children .kept .1 .1 .1 .1 .1 .0) _ (opened-finds t (c .before .before .before .before)) _ (c .enum-told .given .1)))
-    (λ c κs. no-array _ (opened t (c .before .before .before .before .before .before .before .before .before) .1))
+    (λ c κs. eqb-false _ 0xf0 (opened t (c .before .before .before .before .before .before .before .before .before) .1))
     (λ c κs. let s = nest-sums (c .before .before .before .before .before .before .before .before .before .before .before .before .before .before .loop .inv) (c .before .before .before .before .before .before .before .before .before .before .before .before .before .loop-test .taken) _ _ (opened t (c .before .before .before .before .before .before .before .before .before .before) .0 .0 _ _) (opened t (c .before .before .before .before .before .before .before .before .before .before) .0 .1) _ (c .before .before .before .before .before .before .before .size-children .kept .1 .1 .1 .1 .1 .0) _ (opened-finds t (c .before .before .before .before .before .before .before)) _ (c .before .before .before .below .given .1) _ (c .open-head .ensures) (c .before .before .before .before .before .before .before .before .before .before .before .before .before .before .before .before .before .before .good .0 .1) (c .before .before .before .before .before .before .before .before .before .before .before .before .before .before .before .before .before .before .good .1 .0 .1) in (s .1, s .2))
     (λ c. omega (arith, c .before .before .before .before .before .before .before .before .before .before .before .before .before .before .before .before .loop-test .taken))
     (λ c. rw (c .before .before .close .ensures .0) (nest-on (c .before .before .before .before .before .before .before .before .before .before .before .before .before .before .before .before .before .loop .inv) (c .before .before .before .before .before .before .before .before .before .before .before .before .before .before .before .before .loop-test .taken) _ _ (opened t (c .before .before .before .before .before .before .before .before .before .before .before .before .before) .0 .0 _ _) (opened t (c .before .before .before .before .before .before .before .before .before .before .before .before .before) .0 .1) _ (c .before .before .before .before .before .before .before .before .before .before .size-children .kept .1 .1 .1 .1 .1 .0) _ (opened-finds t (c .before .before .before .before .before .before .before .before .before .before)) _ (c .before .before .before .before .before .before .below .given .1) _ (c .before .before .before .open-head .ensures) _ (c .before .before .close .ensures .1) (c .before .before .close .kept .0)))
