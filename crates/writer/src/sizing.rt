@@ -111,7 +111,7 @@ fn is_open(kind: u64, number: u64) -> bool
     }
 }
 
-// May arrays hold a kind.
+// May arrays hold a kind: told by the kind at once, which is faster than by its style.
 fn is_element(kind: u64) -> bool
     ensures { λ r. ⌜ r ≡ member (styleOf kind) ⌝ }
 {
