@@ -101,7 +101,7 @@ member (mapped s) = true
 member (arrayed s) = true
 member describing = false
 
--- may the number of an array's row name that kind, as far as arrays can hold it: 0 names none, and what is no kind is refused for that
+-- may the number of an array's row name that kind, as far as arrays can hold it: 0 names none, and what is no kind is refused for that (docs/FORMAT.md, 2.6 and 5.2)
 unfoldable pub nameable : (kind : ℕ) → Bool
 nameable k = eqb k 0 || (not (isKind (styleOf k)) || member (styleOf k))
 

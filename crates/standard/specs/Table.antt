@@ -23,7 +23,7 @@ unfoldable pub allowed : Spot → (kind : ℕ) → Bool
 allowed any k = true
 allowed (like j) k = eqb k j
 
--- may a row say that its children stand there: an array may not name a kind that arrays cannot hold
+-- may a row say that its children stand there: an array may not name a kind that arrays cannot hold (docs/FORMAT.md, 5.2)
 unfoldable pub naming : Spot → Bool
 naming any = true
 naming (like j) = nameable j
