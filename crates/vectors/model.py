@@ -11,7 +11,7 @@ sys.dont_write_bytecode = True
 from form import bytes_field, bytes_of, cases_in, refusal_field, words_of
 
 MOST = 1_048_576        # 2.7
-LEVELS = 32             # 2.5
+LEVELS = 32             # 2.5: the highest level limit that may be named; the lowest is 1
 TOLD = 2 ** 32          # 2.6: an array's number is its count plus so many times its element kind
 
 DESCRIBED, NULL, BOOLEAN, UINT, INT, CHAR, ULONG, LONG = 0x00, 0x40, 0x56, 0x70, 0x71, 0x73, 0x80, 0x81
@@ -87,10 +87,10 @@ def text_allowed(kind, text):
 
 
 class Table:
-    """A table that is being taken apart, row by row, and written."""
+    """A table that is being taken apart, row by row, and written, within a level limit."""
 
-    def __init__(self, words, text):
-        self.words, self.text, self.row, self.used = words, text, 0, 0
+    def __init__(self, limit, words, text):
+        self.limit, self.words, self.text, self.row, self.used = limit, words, text, 0, 0
 
     def take(self, level, element):
         """The next row's kind, number and text. `element` is None outside arrays, else the kind that the array tells (5.2)."""
@@ -100,7 +100,7 @@ class Table:
         kind, number = self.words[2 * place:2 * place + 2]
         if kind not in KINDS:
             raise Refused(2, place)
-        if level > LEVELS:
+        if level > self.limit:
             raise Refused(3, place)
         if element is not None and kind != element:
             raise Refused(4, place)
@@ -171,11 +171,18 @@ def wide_fields(count, body):
     return (len(body) + 4).to_bytes(4, 'big') + count.to_bytes(4, 'big') + body
 
 
-def encode(words, text):
+def check_limit(limit):
+    """What comes before every other check, in the reader too: may that limit be named (2.5)."""
+    if not 1 <= limit <= LEVELS:
+        raise Refused(15, 0)
+
+
+def encode(limit, words, text):
     """The bytes of a table, or a refusal (5.2)."""
+    check_limit(limit)
     if len(words) % 2 == 1:
         raise Refused(1, 0)
-    table = Table(words, text)
+    table = Table(limit, words, text)
     bs = table.value(1)
     if 2 * table.row < len(words):
         raise Refused(1, table.row)
@@ -186,18 +193,18 @@ def encode(words, text):
     return bs
 
 
-def size(words, text):
+def size(limit, words, text):
     """Sizing's answer, as a case has it (6.1)."""
     try:
-        return f'={len(encode(words, text))}'
+        return f'={len(encode(limit, words, text))}'
     except Refused as r:
         return refusal_field(*r.args)
 
 
-def write(words, text, room):
+def write(limit, words, text, room):
     """Writing's answer, as a case has it (6.2)."""
     try:
-        bs = encode(words, text)
+        bs = encode(limit, words, text)
         if len(bs) > room:
             raise Refused(8, 0)
         return '=' + bytes_field(bs)
@@ -207,11 +214,11 @@ def write(words, text, room):
 
 def agrees(line, sizing):
     fields = line.split(' ')
-    words, text, answer = words_of(fields[0]), bytes_of(fields[1]), fields[-1]
+    limit, words, text, answer = int(fields[0]), words_of(fields[1]), bytes_of(fields[2]), fields[-1]
     if sizing:
-        return size(words, text) == answer
+        return size(limit, words, text) == answer
     given = '=' + bytes_field(bytes_of(answer[1:])) if answer[0] == '=' else answer
-    return write(words, text, int(fields[2])) == given
+    return write(limit, words, text, int(fields[3])) == given
 
 
 def main():

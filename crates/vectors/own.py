@@ -2,6 +2,7 @@
 """own.py: writes data/own_write.txt and data/own_write_big.txt, cases for every refusal and limit of the writer.
 
 The tables are chosen here, by docs/FORMAT.md, sections 2, 3 and 5, and by one limit of the code; some are from outside. The answers are those of model.py.
+Where nothing else is said a case names the level limit 32.
 """
 import re
 import sys
@@ -13,6 +14,8 @@ from model import BLOBS, COMPOUNDS, ELEMENTS, KINDS, LEVELS, MOST, NULL, Refused
 REFUSED_ROOM = 16       # bytes of output for a table that is refused
 EDGES = sorted(n + d for n in (1, 2 ** 7, 2 ** 8, 2 ** 15, 2 ** 16, 2 ** 31, 2 ** 32, 2 ** 63) for d in (-1, 0)) + [2 ** 64 - 1]
 SCALARS = sorted(ELEMENTS - COMPOUNDS.keys())
+NAMED = (1, 2, 15, 16, 17, 31)                              # level limits beside 32
+NOT_NAMED = (0, 33, 2 ** 32, 2 ** 32 + 16, 2 ** 64 - 1)     # and such as may not be named
 PARENTS = {0x00: '00:2,40:0,40:0', 0xd0: 'd0:1,40:0', 0xd1: 'd1:2,40:0,40:0', 0xf0: 'f0.50:1,50:0'}
 
 
@@ -25,15 +28,15 @@ def table(rows):
     return words_of(re.sub(r'f0\.([0-9a-f]+):([0-9]+)', array_row, rows))
 
 
-def case(rows, text=b'', room=None):
+def case(rows, text=b'', room=None, limit=LEVELS):
     """A line, with an output of exactly the size where no other room is asked."""
     words = table(rows)
     if room is None:
         try:
-            room = len(encode(words, text))
+            room = len(encode(limit, words, text))
         except Refused:
             room = REFUSED_ROOM
-    return ' '.join([words_field(words), bytes_field(text), str(room), write(words, text, room)])
+    return ' '.join([str(limit), words_field(words), bytes_field(text), str(room), write(limit, words, text, room)])
 
 
 def good(kind):
@@ -96,18 +99,16 @@ def kinds_unknown():
     yield from map(case, ['d0:2,40:0,ff:0', 'd1:2,ff:0,40:0', 'f0.50:1,ff:0', 'f0.50:2,50:0,ff:0', '00:2,ff:0,40:0', '00:2,80:1,ff:0'])
 
 
-def levels():
-    for depth in (30, 31, 32):
+def levels(limit=LEVELS):
+    """Values above a limit's last level, at it and beyond it."""
+    for depth in (limit - 2, limit - 1, limit):
         for inner in ['40:0', '70:256', 'b1:0', 'd0:0', 'd1:0', 'f0.50:0', 'd0:1', 'f0.50:1,50:7', 'f0.50:1,40:0', 'f0.50:1', 'f0.50:1,ff:0',
                       '00:2,40:0,40:0', 'ff:0', '40:1']:
-            yield case(f'd0:1*{depth},{inner}')
-        yield case(f'd0:1*{depth}')
-        yield case(f'd0:2,40:0,d0:1*{depth - 1},40:0')
-        yield case(f'00:2*{depth},40:0*{depth + 1}')
-        yield case('00:2,40:0,' * depth + '40:0')
-        yield case(f'd1:2*{depth},40:0*{depth + 1}')
-        yield case('d1:2,40:0,' * depth + '40:0')
-        yield case(f'd0:1*{depth},b1:1', b'\xff')
+            yield case(f'd0:1*{depth},{inner}', limit=limit)
+        for rows in [f'd0:1*{depth}', f'd0:2,40:0,d0:1*{depth - 1},40:0', f'00:2*{depth},40:0*{depth + 1}', '00:2,40:0,' * depth + '40:0',
+                     f'd1:2*{depth},40:0*{depth + 1}', 'd1:2,40:0,' * depth + '40:0']:
+            yield case(rows, limit=limit)
+        yield case(f'd0:1*{depth},b1:1', b'\xff', limit=limit)
 
 
 def elements_unfit():
@@ -271,15 +272,14 @@ def compound_bodies():
         yield case(parent('f0.f0', count, 'f0.50:1,50:1'))
 
 
-def compound_levels():
-    for depth in (LEVELS - 2, LEVELS - 1, LEVELS):
+def compound_levels(limit=LEVELS):
+    for depth in (limit - 2, limit - 1, limit):
         for inner in ['50:7', '40:0', 'd0:0', 'f0.50:0', 'd0:1', 'd1:1', 'd1:2', 'f0.50:1', 'f0.50:1,40:0', 'ff:0', '50:256', 'f0:0', 'f0.40:0']:
             kind = inner[:2] if int(inner[:2], 16) in ELEMENTS else '50'
-            yield case(f'f0.f0:1*{depth - 1},f0.{kind}:1,{inner}')
-        yield case(f'd0:1*{depth - 1},f0.d0:1,d0:1,40:0')
-        yield case(f'f0.d0:1,d0:1*{depth - 1},40:0')
-        yield case('f0.d1:1,d1:2,40:0,' * (depth // 2) + '40:0')
-        yield case(f'f0.f0:2,f0.b1:0,f0.f0:1*{depth - 2},f0.b1:1,b1:1', b'\xff')
+            yield case(f'f0.f0:1*{depth - 1},f0.{kind}:1,{inner}', limit=limit)
+        for rows in [f'd0:1*{depth - 1},f0.d0:1,d0:1,40:0', f'f0.d0:1,d0:1*{depth - 1},40:0', 'f0.d1:1,d1:2,40:0,' * (depth // 2) + '40:0']:
+            yield case(rows, limit=limit)
+        yield case(f'f0.f0:2,f0.b1:0,f0.f0:1*{depth - 2},f0.b1:1,b1:1', b'\xff', limit=limit)
 
 
 # A table with lists, maps and arrays in arrays, and its text.
@@ -308,7 +308,7 @@ def compound_rooms():
     tables = [NESTED, ('f0.d0:1,d0:0', b''), ('f0.f0:1,f0.50:1,50:1', b''), ('f0.d1:3,d1:0*3', b''), ('f0.d0:1,d0:1,b0:255', b'r' * 255),
               ('f0.f0:2,f0.70:0*2', b'')]
     for rows, text in tables:
-        size = len(encode(table(rows), text))
+        size = len(encode(LEVELS, table(rows), text))
         for room in (0, size - 1, size + 1):
             yield case(rows, text, room)
 
@@ -411,7 +411,7 @@ def rooms():
         ('70:256', b''), ('b1:0', b''), ('b0:255', b'r' * 255), ('d0:0', b''), ('d1:0', b''), ('f0.50:0', b''), ('d0:255,40:0*255', b''),
         ('f0.50:254,50:9*254', b''), ('d0:1*31,d0:0', b'')]
     for rows, text in tables:
-        size = len(encode(table(rows), text))
+        size = len(encode(LEVELS, table(rows), text))
         for room in sorted({0, size - 1, size, size + 1, size + 40}):
             yield case(rows, text, room)
 
@@ -502,6 +502,53 @@ def outside():
         yield case(rows, bytes_of(text))
 
 
+def named_levels():
+    for limit in NAMED:
+        yield from levels(limit)
+        yield from compound_levels(limit)
+
+
+# Every refusal but 3, 7 and 8: rows and text.
+FAULTS = [('-', b''), ('+40', b''), ('40:0,+40', b''), ('d0:1', b''), ('d0:2,40:0', b''), ('40:0*2', b''),
+          ('ff:0', b''), ('140:0', b''), ('d0:2,40:0,ff:0', b''),
+          ('f0.40:0', b''), ('f0.50:1,60:1', b''), ('f0.d0:2,d0:0,d1:0', b''), ('d0:1,f0.50:1,00:2', b''),
+          ('40:1', b''), ('f0:0', b''), (f'f0.50:{MOST + 1}', b''), ('d0:2,40:0,d1:1', b''),
+          ('b1:2', b'a'), ('b1:1', b'\xff'), ('d0:2,b3:1,b3:1', b'a\x80'), ('40:0', b'a'), ('98:0', b'')]
+# Tables that can be written, of up to three levels.
+GOOD = [('40:0', b''), ('70:256', b''), ('d0:1,40:0', b''), ('f0.50:1,50:7', b''), ('00:2,40:0,b1:2', 'Ø'.encode()), ('d0:1,f0.70:0', b''), ('f0.d0:1,d0:1,40:0', b'')]
+
+
+def faults(limit):
+    """They are at the same place within each limit; those of an output that is too short too."""
+    for rows, text in FAULTS:
+        yield case(rows, text, limit=limit)
+    for rows, text in GOOD:
+        size = len(encode(LEVELS, table(rows), text))
+        for room in (0, size - 1, size):
+            yield case(rows, text, room, limit)
+
+
+def named_faults():
+    for limit in (3, 16):
+        yield from faults(limit)
+
+
+def nests(depth):
+    """Tables of so many levels."""
+    inside = depth - 1
+    yield from [f'd0:1*{inside},40:0', f'd1:2*{inside},40:0*{depth}', f'00:2*{inside},40:0*{depth}', f'd0:1*{inside},f0.50:0', f'f0.f0:1*{inside},f0.50:0']
+    if inside:
+        yield from [f'd0:1*{inside - 1},f0.50:1,50:7', f'f0.f0:1*{inside - 1},f0.50:1,50:7', f'd0:1*{inside - 1},f0.d0:1,d0:0']
+
+
+def not_named():
+    """Tables that each limit that may be named takes, those that only 32 takes, and those that none does; each refusal."""
+    for limit in NOT_NAMED:
+        for depth in (1, LEVELS, LEVELS + 1, LEVELS + 2):
+            yield from (case(rows, limit=limit) for rows in nests(depth))
+        yield from faults(limit)
+
+
 def too_long():
     for kind in TEXTS:
         for length in (MOST - 5, MOST - 4, MOST):
@@ -544,12 +591,15 @@ def chains(root, outer, inner, count):
     return ','.join([f'{root}:{len(parts)}', *parts])
 
 
+# Root, outer and inner of chains.
+CHAINS = [('d0', 'd0:1', 'd0:1,40:0'), ('f0.d0', 'd0:1', 'd0:1,40:0'), ('d0', 'f0.f0:1', 'f0.50:1,50:1'), ('f0.f0', 'f0.f0:1', 'f0.50:1,50:1')]
+
+
 def marks():
     """The writer keeps the sizes of up to 256 compounds beside the output."""
     for count in (255, 256, 257):
-        for root, outer, inner in (('d0', 'd0:1', 'd0:1,40:0'), ('f0.d0', 'd0:1', 'd0:1,40:0'), ('d0', 'f0.f0:1', 'f0.50:1,50:1'),
-                                   ('f0.f0', 'f0.f0:1', 'f0.50:1,50:1')):
-            yield case(chains(root, outer, inner, count))
+        for links in CHAINS:
+            yield case(chains(*links, count))
     yield case(parent('f0.d1', 150, 'd1:2,40:0,d0:1,b0:2'), b'ab' * 150)
     yield case(parent('f0.d0', 100, 'd0:2,f0.50:2,50:1,50:2,f0.d0:1,d0:0'))
     yield case(','.join(['d0:10', *[f'f0.f0:1*{LEVELS - 3},f0.50:1,50:1'] * 10]))
@@ -561,6 +611,16 @@ def marks():
         yield case(f"f0.f0:2,{chains('f0.f0', 'f0.f0:1', 'f0.50:1,50:1', count - 2)},f0.b1:0")
 
 
+def big_limits():
+    """The longest values, those that are too long, and more compounds than are kept, within other limits and such as may not be named."""
+    for limit in (1, 16, *NOT_NAMED):
+        for length, room in ((MOST - 5, MOST), (MOST - 5, MOST - 1), (MOST - 4, MOST)):
+            yield case(f'b0:{length}', b'a' * length, room, limit)
+    for limit in (3, 4, 16, 33):
+        for links in CHAINS:
+            yield case(chains(*links, 257), limit=limit)
+
+
 SMALL = [
     ('worked examples', worked), ('examples/order.amqp', example), ('1: rows amiss', rows_amiss), ('2: kinds unknown', kinds_unknown),
     ('3: levels', levels),
@@ -570,9 +630,11 @@ SMALL = [
     ('their refusals', compound_faults), ('their rooms', compound_rooms),
     ('described values', described), ('the order of refusals', order), ('8: rooms', rooms), ('worked examples of arrays of lists, maps and arrays', worked_nested),
     ('4 and 5: what an array tells', told_kinds), ('empty arrays of every kind', told_empty), ('their bodies', told_bodies),
-    ('the order of refusals at what an array tells', told_order), ('tables from outside', outside)]
-BIG = [('7: too long', too_long), ('more compounds than are kept beside the output', marks)]
+    ('the order of refusals at what an array tells', told_order), ('tables from outside', outside),
+    ('3: levels within other limits', named_levels), ('other refusals within other limits', named_faults),
+    ('15: limits that may not be named', not_named)]
+BIG = [('7: too long', too_long), ('more compounds than are kept beside the output', marks), ('7, 15 and more compounds within other limits', big_limits)]
 
-
-store('own_write.txt', SMALL)
-store('own_write_big.txt', BIG)
+if __name__ == '__main__':
+    store('own_write.txt', SMALL)
+    store('own_write_big.txt', BIG)

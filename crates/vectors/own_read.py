@@ -1,27 +1,29 @@
 #!/usr/bin/env python3
-"""own_read.py: writes data/own_read.txt, cases for every refusal and limit of the reader.
+"""own_read.py: writes data/own_read.txt and data/own_walk.txt, cases for every refusal and limit of the reader, and of the walker.
 
-The bytes are chosen here, by docs/FORMAT.md, sections 4 and 5; some are from outside. The answers are those of read_model.py.
+The bytes are chosen here, by docs/FORMAT.md, sections 4, 5 and 7; some are from outside. The answers are those of read_model.py.
+Where nothing else is said a case names the level limit 32.
 """
 import sys
 
 sys.dont_write_bytecode = True
 from form import bytes_field, bytes_of, store
 from model import LEVELS, Refused
-from read_model import CODES, ELEMENT_CODES, measure, read
+from own import NAMED, NOT_NAMED
+from read_model import CODES, ELEMENT_CODES, measure, read, step, walk
 
 REFUSED_ROOM = 4        # words and bytes of text lent where the bytes are refused
 
 
-def case(data, words=None, letters=None):
+def case(data, words=None, letters=None, limit=LEVELS):
     """A line, with exactly enough room where no other is asked."""
     try:
-        v = measure(data)
+        v = measure(limit, data)
         exact = 2 * len(v.rows), len(v.text)
     except Refused:
         exact = REFUSED_ROOM, REFUSED_ROOM
     words, letters = exact[0] if words is None else words, exact[1] if letters is None else letters
-    return ' '.join([bytes_field(data), str(words), str(letters), read(data, words, letters)])
+    return ' '.join([str(limit), bytes_field(data), str(words), str(letters), read(limit, data, words, letters)])
 
 
 def hexes(*lines):
@@ -170,37 +172,38 @@ def compound_faults():
     yield case(b'\xc1' + fields(1, 2, NESTED + NESTED))
 
 
-def compound_levels():
-    """Arrays in arrays, and lists in arrays in lists, to the last level."""
+def compound_levels(limit=LEVELS):
+    """Arrays in arrays, and lists in arrays in lists, to the last level of a limit."""
     ends = [(0x50, b'\x07'), (0xc0, fields(1, 0, b'')), (0xc0, fields(1, 1, b'\x40')), (0xc0, b'\x01\x01'), (0xc1, b'\x01\x01'), (0xc1, b'\x01\x02'),
             (0xe0, fields(1, 0, b'')), (0xe0, fields(1, 0, b'\x50')), (0xe0, b'\x01\x01'),
             (0xe0, fields(1, 1, b'\x50\x07')), (0xe0, fields(1, 1, b'\x46')), (0x46, b''), (0x40, b'')]
-    for depth in (LEVELS - 2, LEVELS - 1, LEVELS):
+    for depth in (limit - 2, limit - 1, limit):
         for code, items in ends:
             for _ in range(depth - 1):
                 code, items = 0xe0, fields(1, 1, bytes([code]) + items)
-            yield case(arrayed(code, items))
-            if depth == LEVELS - 2:
-                yield case(listed(b'\x40', arrayed(code, items)))
-    for depth in (LEVELS // 2 - 1, LEVELS // 2, LEVELS // 2 + 1):
+            yield case(arrayed(code, items), limit=limit)
+            if depth == limit - 2:
+                yield case(listed(b'\x40', arrayed(code, items)), limit=limit)
+    for depth in (limit // 2 - 1, limit // 2, limit // 2 + 1):
         data = b'\x40'
         for _ in range(depth):
             data = arrayed(0xc0, fields(1, 1, data))
-        yield case(data)
-        yield case(listed(data))
+        yield case(data, limit=limit)
+        yield case(listed(data), limit=limit)
 
 
-def levels():
-    """Level 32 and 33, by described values and by lists."""
-    for n in (30, 31, 32, 33):
-        yield from map(case, (b'\x00' * n, b'\x00' * n + b'\x40\x40', (b'\x00' * n) + b'\x40' * (n + 1)))
-    for depth in (30, 31):
+def levels(limit=LEVELS):
+    """A limit's last level and the one beyond it, by described values and by lists."""
+    for n in (limit - 2, limit - 1, limit, limit + 1):
+        for data in (b'\x00' * n, b'\x00' * n + b'\x40\x40', b'\x00' * n + b'\x40' * (n + 1)):
+            yield case(data, limit=limit)
+    for depth in (limit - 2, limit - 1):
         inner = (b'\x40', b'\x45', b'\xc0\x01\x00', b'\xc0\x02\x01\x40', b'\xc1\x01\x01', b'\xc1\x01\x02', b'\xe0\x01\x00', b'\xe0\x02\x00\x50',
                  b'\xe0\x03\x01\x50\x07', b'\xe0\x01\x01', b'\x46', b'')
         for data in inner:
             for _ in range(depth):
                 data = bytes([0xc0, len(data) + 1, 1]) + data
-            yield case(data)
+            yield case(data, limit=limit)
 
 
 def told():
@@ -229,17 +232,17 @@ def told():
             yield case(data[:-1])
 
 
-def told_levels():
-    """Empty arrays at the last levels: in lists, and in arrays of both widths."""
-    for depth in (LEVELS - 2, LEVELS - 1, LEVELS):
+def told_levels(limit=LEVELS):
+    """Empty arrays at the last levels of a limit: in lists, and in arrays of both widths."""
+    for depth in (limit - 2, limit - 1, limit):
         for width, inner in ((1, 0xe0), (4, 0xf0)):
             for body in (b'', b'\x52', b'\xf0', b'\xc1', b'\x40', b'\x46', b'\x52\x52'):
                 data = bytes([inner]) + fields(width, 0, body)
                 code, items = inner, fields(width, 0, body)
                 for _ in range(depth):
                     data, code, items = listed(data), 0xe0, fields(1, 1, bytes([code]) + items)
-                yield case(data)
-                yield case(bytes([code]) + items)
+                yield case(data, limit=limit)
+                yield case(bytes([code]) + items, limit=limit)
 
 
 def rooms():
@@ -250,7 +253,7 @@ def rooms():
             yield case(data, words, letters)
     yield case(b'\x40', 0, 0)
     yield case(b'\x40', 1, 0)
-    v = measure(NESTED)
+    v = measure(LEVELS, NESTED)
     for words in (0, 2 * len(v.rows) - 1, 2 * len(v.rows), 2 * len(v.rows) + 3):
         for letters in (0, len(v.text), len(v.text) + 3):
             yield case(NESTED, words, letters)
@@ -306,9 +309,122 @@ def outside():
     yield from map(case, map(bytes_of, OUTSIDE.split()))
 
 
+def named_levels():
+    for limit in NAMED:
+        yield from levels(limit)
+        yield from compound_levels(limit)
+    for limit in (1, 16):
+        yield from told_levels(limit)
+
+
+# Every refusal but 3, 13 and 14.
+FAULTS = [bytes.fromhex(data) for data in (
+    '', 'c0', 'c0020252', 'c00101', 'e0020150', '0040', '50', '46', 'c0020146', 'e0020146', 'e0030146ff', '5602', '730000d800', 'a101ff', 'a30180',
+    'e003015602', 'c00601a103c398c3', 'c000', 'c0030140', 'c003014040', 'c1020140', 'd000000003', 'e00402500102ff', 'e0020140', 'e0020045', 'e003010040')]
+TEXT = b'\xa1\x02ab'
+
+
+def faults(limit):
+    """They are at the same place within each limit; those of rooms that are too small too."""
+    for data in FAULTS:
+        yield case(data, limit=limit)
+    for words, letters in ((0, 0), (1, 2), (2, 1), (2, 2), (3, 3)):
+        yield case(TEXT, words, letters, limit)
+
+
+def named_faults():
+    for limit in (3, 16):
+        yield from faults(limit)
+
+
+def mapped(value):
+    return b'\xc1' + fields(1, 2, value + b'\x40')
+
+
+def described(value):
+    return b'\x00' + value + b'\x40'
+
+
+def below(parent, depth, value):
+    """A value below so many parents."""
+    for _ in range(depth):
+        value = parent(value)
+    return value
+
+
+def nests(depth):
+    """Values of so many levels."""
+    for parent in (listed, mapped, described):
+        for value in (b'\x40', b'\x45', b'\xe0\x01\x00', b'\xe0\x02\x00\x50'):
+            yield below(parent, depth - 1, value)
+    for value in (arrayed(0x50, b'\x07'), arrayed(0xc0, b'\x01\x00'), arrayed(0xe0, b'\x02\x00\x70')) if depth > 1 else ():
+        yield below(listed, depth - 2, value)
+
+
+def not_named():
+    """Values that each limit that may be named takes, those that only 32 takes, and those that none does; each refusal."""
+    for limit in NOT_NAMED:
+        for depth in (1, LEVELS, LEVELS + 1, LEVELS + 2):
+            yield from (case(data, limit=limit) for data in nests(depth))
+        yield from faults(limit)
+
+
+def steps(data, at=0, limit=LEVELS):
+    """A line: the walker's steps from a place on, to its end or to a refusal, and one more, which says the same."""
+    count, place, answer = 1, at, None
+    while answer is None or answer[0] == '=' and answer != '=0':
+        answer, place = step(limit, data, place)
+        count += 1
+    return ' '.join([str(limit), str(at), bytes_field(data), walk(limit, at, data, count)])
+
+
+# Three values, which only the lowest limit does not take.
+THREE = b'\x40' + listed(b'\x43') + arrayed(0x50, b'\x07')
+
+
+def places(limit):
+    """From every place on: those of values, those within them, the end and beyond it; and on no bytes."""
+    for at in (*range(len(THREE) + 3), 2 ** 32, 2 ** 63, 2 ** 64 - 1):
+        yield steps(THREE, at, limit)
+    for at in (0, 1, 2 ** 64 - 1):
+        yield steps(b'', at, limit)
+
+
+def named_places():
+    for limit in (1, 2, 16, LEVELS):
+        yield from places(limit)
+
+
+def walked_levels():
+    """Values to the last level of a limit, and then one beyond it."""
+    for limit in (*NAMED, LEVELS):
+        for fits, deeper in zip(nests(limit), nests(limit + 1)):
+            yield steps(b'\x40' + fits + deeper, 0, limit)
+
+
+def walked_faults():
+    """Each refusal in front of the walker and behind a value: the place counts from the walker's own."""
+    for limit in (3, 16):
+        for data in FAULTS:
+            yield steps(data, 0, limit)
+            yield steps(TEXT + data, 0, limit)
+            yield steps(TEXT + data, len(TEXT), limit)
+
+
+def walked_not_named():
+    for limit in NOT_NAMED:
+        yield from places(limit)
+        yield from (steps(data, 0, limit) for data in FAULTS)
+        yield from (steps(b'\x40' + data, 1, limit) for data in nests(LEVELS + 1))
+
+
 SECTIONS = [('every code', every_code), ('numbers', numbers), ('texts', texts), ('sizes and counts', sizes), ('arrays', arrays),
             ('arrays of lists, maps and arrays', compounds), ('their refusals', compound_faults), ('their levels', compound_levels),
             ('levels', levels), ('rooms', rooms), ('what an array tells', told), ('empty arrays at the last levels', told_levels),
-            ('bytes from outside', outside)]
+            ('bytes from outside', outside), ('levels within other limits', named_levels),
+            ('other refusals within other limits', named_faults), ('15: limits that may not be named', not_named)]
+WALKS = [('every place', named_places), ('levels', walked_levels), ('other refusals', walked_faults), ('15: limits that may not be named', walked_not_named)]
 
-store('own_read.txt', SECTIONS)
+if __name__ == '__main__':
+    store('own_read.txt', SECTIONS)
+    store('own_walk.txt', WALKS)

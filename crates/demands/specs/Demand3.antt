@@ -1,8 +1,8 @@
 -- Demand 3, of the code: no written table's bytes begin another's. Of all bytes that arrive at most one beginning is well-formed; its length is reported
 -- exactly when there is one, and what stands behind changes nothing.
 --
--- The hypotheses are promises of public functions (see Demand1.antt); `Formed levelMost` is the grammar, at the limit in force, and `Begins levelMost b e` says that the bytes
--- b begin with those of a well-formed value, whose length, rows and text are e.
+-- The hypotheses are promises of public functions (see Demand1.antt); `Formed l` is the grammar within the limit l, and `Begins l b e` says that l is in force and
+-- that the bytes b begin with those of a well-formed value, whose length, rows and text are e.
 use Prim.Native.Nat.{ℕ}
 use mathlib.Core.Path.{_≡_, sym, ap, _∙_}
 use mathlib.Core.List.{List, _++_}
@@ -11,7 +11,6 @@ use Rattle.standard.specs.Answer.{got}
 use Rattle.standard.specs.Tree.{Tree}
 use Rattle.standard.specs.Grammar.{Formed}
 use Rattle.standard.specs.Outcomes as outcome
-use Rattle.standard.specs.Outcomes.{levelMost}
 use Rattle.laws.specs.Demand3.{Begins, demand3}
 use Rattle.writer.specs.declared.Written.the-variants.{Length}
 use Rattle.writer.proofs.Unique as writer
@@ -29,36 +28,37 @@ abbrev pub extentIs : Extent → outcome.Extent
 extentIs e = record { length = e .length; rows = e .rows; text = e .text }
 
 pub record Demand3 : Type 0 where
-  -- no written table's bytes begin another's: of two tables that are written, if the bytes of one begin those of the other, rows and text of the two are the same
-  pub apart : (w x o u y q : List ℕ) (r s : writer.Outcome) (n m : ℕ) (z : List ℕ) → WritePromise w x o r → WritePromise u y q s → r .answer ≡ Length n → s .answer ≡ Length m
+  -- no written table's bytes begin another's: of two tables that are written, if the bytes of one begin those of the other, rows and text of the two are the same,
+  -- whatever limits they were written within
+  pub apart : (l k : ℕ) (w x o u y q : List ℕ) (r s : writer.Outcome) (n m : ℕ) (z : List ℕ) → WritePromise l w x o r → WritePromise k u y q s → r .answer ≡ Length n → s .answer ≡ Length m
       → take m (s .out) ≡ take n (r .out) ++ z → (w ≡ u) × (x ≡ y)
-  -- of all bytes that arrive at most one beginning is well-formed, and it is the bytes of one value
-  pub one : (b a c y z : List ℕ) (v u : Tree) → b ≡ a ++ y → Formed levelMost v a → b ≡ c ++ z → Formed levelMost u c → (a ≡ c) × (v ≡ u)
+  -- of all bytes that arrive at most one beginning is well-formed, and it is the bytes of one value, whatever the limits
+  pub one : (l k : ℕ) (b a c y z : List ℕ) (v u : Tree) → b ≡ a ++ y → Formed l v a → b ≡ c ++ z → Formed k u c → (a ≡ c) × (v ≡ u)
   -- its length is reported exactly when there is one; reading reports no other
-  pub reported : (b : List ℕ) (r : Measured) (e : Extent) → MeasurePromise b r → r ≡ Fits e → Begins levelMost b (extentIs e)
-  pub whenever : (b : List ℕ) (r : Measured) (e : Extent) → MeasurePromise b r → Begins levelMost b (extentIs e) → r ≡ Fits e
-  pub reported-read : (b w x : List ℕ) (r : reader.Outcome) (e : Extent) → ReadPromise b w x r → r .answer ≡ Fits e → Begins levelMost b (extentIs e)
+  pub reported : (l : ℕ) (b : List ℕ) (r : Measured) (e : Extent) → MeasurePromise l b r → r ≡ Fits e → Begins l b (extentIs e)
+  pub whenever : (l : ℕ) (b : List ℕ) (r : Measured) (e : Extent) → MeasurePromise l b r → Begins l b (extentIs e) → r ≡ Fits e
+  pub reported-read : (l : ℕ) (b w x : List ℕ) (r : reader.Outcome) (e : Extent) → ReadPromise l b w x r → r .answer ≡ Fits e → Begins l b (extentIs e)
   -- what stands behind changes nothing: neither what is measured, nor what is read
-  pub behind : (b z : List ℕ) (r s : Measured) (e : Extent) → MeasurePromise b r → r ≡ Fits e → MeasurePromise (take (e .length) b ++ z) s → s ≡ r
-  pub behind-read : (b z w x : List ℕ) (r s : reader.Outcome) (e : Extent) → ReadPromise b w x r → r .answer ≡ Fits e → ReadPromise (take (e .length) b ++ z) w x s → s ≡ r
+  pub behind : (l : ℕ) (b z : List ℕ) (r s : Measured) (e : Extent) → MeasurePromise l b r → r ≡ Fits e → MeasurePromise l (take (e .length) b ++ z) s → s ≡ r
+  pub behind-read : (l : ℕ) (b z w x : List ℕ) (r s : reader.Outcome) (e : Extent) → ReadPromise l b w x r → r .answer ≡ Fits e → ReadPromise l (take (e .length) b ++ z) w x s → s ≡ r
 
 -- The proofs
 
-measured-yes : (b : List ℕ) (r : Measured) (e : Extent) → MeasurePromise b r → r ≡ Fits e → outcome.measure levelMost b ≡ got (extentIs e)
-measured-yes b r e h i = sym h ∙ ap measuredIs i
+measured-yes : (l : ℕ) (b : List ℕ) (r : Measured) (e : Extent) → MeasurePromise l b r → r ≡ Fits e → outcome.measure l b ≡ got (extentIs e)
+measured-yes l b r e h i = sym h ∙ ap measuredIs i
 
 pub demand : Demand3
 demand = record {
-  apart = λ w x o u y q r s n m z h k e f i.
-      demand3 .apart levelMost w x o u y q n m z (wrote-yes w x o r n h e) (wrote-yes u y q s m k f) (ap (take m) (sym (k .1)) ∙ i ∙ ap (λ (p : List ℕ). take n p ++ z) (h .1));
-  one = λ b a c y z v u. demand3 .one levelMost b a c y z v u;
-  reported = λ b r e h i. demand3 .reported levelMost b (extentIs e) (measured-yes b r e h i);
-  whenever = λ b r e h g. one-measured b r (Fits e) h (sym (demand3 .whenever levelMost b (extentIs e) g));
-  reported-read = λ b w x r e h i. demand3 .reported-read levelMost b w x (extentIs e) (gave-yes b w x r e h i);
-  behind = λ b z r s e h i k.
-      one-measured (take (e .length) b ++ z) s r k (h ∙ measured-yes b r e h i ∙ sym (demand3 .behind levelMost b z (extentIs e) (measured-yes b r e h i)));
-  behind-read = λ b z w x r s e h i k.
-      let g = demand3 .behind-read levelMost b z w x (extentIs e) (gave-yes b w x r e h i) in
-      let m : (f : outcome.Reading → List ℕ) → f (outcome.read levelMost b w x) ≡ f (outcome.read levelMost (take (e .length) b ++ z) w x) = λ f. ap f (sym g) in
-      one-read (take (e .length) b ++ z) w x s r k (h .0 ∙ ap (λ (t : outcome.Reading). t .answer) (sym g), h .1 ∙ m (λ t. t .words), h .2 ∙ m (λ t. t .letters));
+  apart = λ l k w x o u y q r s n m z h g e f i.
+      demand3 .apart l k w x o u y q n m z (wrote-yes l w x o r n h e) (wrote-yes k u y q s m g f) (ap (take m) (sym (g .1)) ∙ i ∙ ap (λ (p : List ℕ). take n p ++ z) (h .1));
+  one = demand3 .one;
+  reported = λ l b r e h i. demand3 .reported l b (extentIs e) (measured-yes l b r e h i);
+  whenever = λ l b r e h g. one-measured l b r (Fits e) h (sym (demand3 .whenever l b (extentIs e) g));
+  reported-read = λ l b w x r e h i. demand3 .reported-read l b w x (extentIs e) (gave-yes l b w x r e h i);
+  behind = λ l b z r s e h i k.
+      one-measured l (take (e .length) b ++ z) s r k (h ∙ measured-yes l b r e h i ∙ sym (demand3 .behind l b z (extentIs e) (measured-yes l b r e h i)));
+  behind-read = λ l b z w x r s e h i k.
+      let g = demand3 .behind-read l b z w x (extentIs e) (gave-yes l b w x r e h i) in
+      let m : (f : outcome.Reading → List ℕ) → f (outcome.read l b w x) ≡ f (outcome.read l (take (e .length) b ++ z) w x) = λ f. ap f (sym g) in
+      one-read l (take (e .length) b ++ z) w x s r k (h .0 ∙ ap (λ (t : outcome.Reading). t .answer) (sym g), h .1 ∙ m (λ t. t .words), h .2 ∙ m (λ t. t .letters));
 }

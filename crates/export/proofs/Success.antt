@@ -6,10 +6,12 @@ use mathlib.Core.Bool.{Bool, true, false, not}
 use native.Mathlib.Omega.{arith}
 use lib.Dec.{T}
 use lib.ListN.{drop}
-use Rattle.standard.specs.Answer.{Answer, got, refuse, Place, at}
+use Rattle.standard.specs.Answer.{Answer, got, refuse, Place, at, limitOutside}
 use Rattle.standard.specs.Outcomes as outcome
-use Rattle.standard.specs.Outcomes.{levelMost, Step, end, part, refused, stepped, stepIn, measure}
-use Rattle.laws.specs.Ranges.{among, ofMeasure, Within, refusal′, size-range, write-range, measure-range, read-range, StepRange, step-range}
+use Rattle.standard.specs.Outcomes.{inForce, Step, end, part, refused, stepped, stepIn, measure}
+use Rattle.standard.specs.Facts.{if-case}
+use Rattle.laws.specs.Ranges.{among, ofMeasure, Within, refusal′, StepRange}
+use Rattle.laws.specs.Demand1.{outside, size-any, write-any, measure-any, read-any, step-any}
 use Rattle.export.specs.Boundary.{Sizing, sizing, Writing, Measuring, measuring, Reading, lengthIn, Stepping}
 use Rattle.export.proofs.Unique.{SizePromise, WritePromise, MeasurePromise, ReadPromise, StepPromise}
 
@@ -46,17 +48,17 @@ sizing-success m h t o e = zero-success (λ k. sizing k .code) (λ a. refl) sizi
 measuring-success : {xs : List ℕ} (m : Answer outcome.Extent) → Within xs m → T (not (among xs 0)) → (o : Measuring) → measuring m ≡ o → Same (o .code ≡ 0) (Success m)
 measuring-success m h t o e = zero-success (λ k. measuring k .code) (λ a. refl) measuring-number m h t (o .code) (ap (λ (z : Measuring). z .code) e)
 
-pub size-success : (w x : List ℕ) (o : Sizing) → SizePromise w x o → Same (o .code ≡ 0) (Success (outcome.size levelMost w x))
-size-success w x o e = sizing-success _ (size-range levelMost w x) tt o e
+pub size-success : (l : ℕ) (w x : List ℕ) (o : Sizing) → SizePromise l w x o → Same (o .code ≡ 0) (Success (outcome.size l w x))
+size-success l w x o e = sizing-success _ (size-any l w x) tt o e
 
-pub write-success : (w x b : List ℕ) (o : Writing) → WritePromise w x b o → Same (o .answer .code ≡ 0) (Success (outcome.write levelMost w x b .answer))
-write-success w x b o e = sizing-success _ (write-range levelMost w x b) tt (o .answer) (ap (λ (z : Writing). z .answer) e)
+pub write-success : (l : ℕ) (w x b : List ℕ) (o : Writing) → WritePromise l w x b o → Same (o .answer .code ≡ 0) (Success (outcome.write l w x b .answer))
+write-success l w x b o e = sizing-success _ (write-any l w x b) tt (o .answer) (ap (λ (z : Writing). z .answer) e)
 
-pub measure-success : (b : List ℕ) (o : Measuring) → MeasurePromise b o → Same (o .code ≡ 0) (Success (outcome.measure levelMost b))
-measure-success b o e = measuring-success _ (measure-range levelMost b) tt o e
+pub measure-success : (l : ℕ) (b : List ℕ) (o : Measuring) → MeasurePromise l b o → Same (o .code ≡ 0) (Success (outcome.measure l b))
+measure-success l b o e = measuring-success _ (measure-any l b) tt o e
 
-pub read-success : (b w x : List ℕ) (o : Reading) → ReadPromise b w x o → Same (o .answer .code ≡ 0) (Success (outcome.read levelMost b w x .answer))
-read-success b w x o e = measuring-success _ (read-range levelMost b w x) tt (o .answer) (ap (λ (z : Reading). z .answer) e)
+pub read-success : (l : ℕ) (b w x : List ℕ) (o : Reading) → ReadPromise l b w x o → Same (o .answer .code ≡ 0) (Success (outcome.read l b w x .answer))
+read-success l b w x o e = measuring-success _ (read-any l b w x) tt (o .answer) (ap (λ (z : Reading). z .answer) e)
 
 -- The walker's step
 
@@ -64,12 +66,16 @@ read-success b w x o e = measuring-success _ (read-range levelMost b w x) tt (o 
 abbrev pub Finds : Step → Type 0
 Finds s = (i n : ℕ) × (s ≡ part i n)
 
-done-told : (s : Step) → StepRange s → Same ((sizing (lengthIn s) .code ≡ 0) × (sizing (lengthIn s) .length ≡ 0)) (s ≡ end)
+-- the refusals of a step
+abbrev told : List ℕ
+told = limitOutside ∷ ofMeasure
+
+done-told : (s : Step) → StepRange told s → Same ((sizing (lengthIn s) .code ≡ 0) × (sizing (lengthIn s) .length ≡ 0)) (s ≡ end)
 done-told end h = (λ t. refl, λ e. (refl, refl))
 done-told (part i n) h = (λ t. absurd (omega (arith, t .1)), λ e. (refl, cc))
-done-told (refused x (at p)) h = (λ t. absurd (not-zero ofMeasure x h tt (t .0)), λ e. (cc, refl))
+done-told (refused x (at p)) h = (λ t. absurd (not-zero told x h tt (t .0)), λ e. (cc, refl))
 
-value-told : (s : Step) → StepRange s → Same ((sizing (lengthIn s) .code ≡ 0) × (1 ≤ sizing (lengthIn s) .length)) (Finds s)
+value-told : (s : Step) → StepRange told s → Same ((sizing (lengthIn s) .code ≡ 0) × (1 ≤ sizing (lengthIn s) .length)) (Finds s)
 value-told end h = (λ t. absurd (omega (arith, t .1)), λ f. let q = f .2 in let z : _≡_ {A = ℕ} 0 1 = cc in absurd (omega arith))
 value-told (part i n) h = (λ t. (i, n, refl), λ f. (refl, h))
 value-told (refused x (at p)) h = (λ t. absurd (omega (arith, t .1)), λ f. let q = f .2 in let z : _≡_ {A = ℕ} 0 1 = cc in absurd (omega arith))
@@ -84,17 +90,17 @@ unfolding stepIn
 moved-in l i [] = omega arith
 moved-in l i (b ∷ s) = moved-by i (measure l (b ∷ s))
 
-module _ (b : List ℕ) (i : ℕ) (o : Stepping) (e : StepPromise b i o) where
+module _ (l : ℕ) (b : List ℕ) (i : ℕ) (o : Stepping) (e : StepPromise l b i o) where
   abbrev pub found : Step
-  found = outcome.step levelMost b i .answer
+  found = outcome.step l b i .answer
 
   pub step-done : Same ((o .answer .code ≡ 0) × (o .answer .length ≡ 0)) (found ≡ end)
-  step-done = subst (λ (z : Stepping). Same ((z .answer .code ≡ 0) × (z .answer .length ≡ 0)) (found ≡ end)) e (done-told found (step-range levelMost b i))
+  step-done = subst (λ (z : Stepping). Same ((z .answer .code ≡ 0) × (z .answer .length ≡ 0)) (found ≡ end)) e (done-told found (step-any l b i))
 
   pub step-value : Same ((o .answer .code ≡ 0) × (1 ≤ o .answer .length)) (Finds found)
-  step-value = subst (λ (z : Stepping). Same ((z .answer .code ≡ 0) × (1 ≤ z .answer .length)) (Finds found)) e (value-told found (step-range levelMost b i))
+  step-value = subst (λ (z : Stepping). Same ((z .answer .code ≡ 0) × (1 ≤ z .answer .length)) (Finds found)) e (value-told found (step-any l b i))
 
   -- the caller's place is moved by the length: at the end and on a refusal it stays
   pub step-moves : o .at ≡ i + o .answer .length
   unfolding outcome.step
-  step-moves = subst (λ (z : Stepping). z .at ≡ i + z .answer .length) e (moved-in levelMost i (drop i b))
+  step-moves = subst (λ (z : Stepping). z .at ≡ i + z .answer .length) e (if-case (λ (s : outcome.Stepping). s .at ≡ i + sizing (lengthIn (s .answer)) .length) (inForce l) (stepIn l i (drop i b)) (stepped i outside) (λ t. moved-in l i (drop i b)) (λ t. moved-by i outside))

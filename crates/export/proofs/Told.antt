@@ -24,6 +24,9 @@ pub read-told : (k : outcome.Reading) (a : Answer outcome.Extent) (w x : List �
     → reading k ≡ record { answer = t; words = w; letters = x }
 read-told k a w x t e h i = record { answer = measure-told (k .answer) a t (e .0) h i; words = sym (e .1) i; letters = sym (e .2) i }
 
--- of a step also its answer x, as a match found it
-pub step-told : (k : outcome.Stepping) (m : Stepped) (x : Step) (t : Sizing) → steppedIs m ≡ k → m .answer ≡ x → sizing (lengthIn (stepIs x)) ≡ t → stepping k ≡ record { answer = t; at = m .at }
-step-told k m x t e f h = ap stepping (sym e) ∙ (λ i. record { answer = size-told (lengthIn (stepIs (m .answer))) (lengthIn (stepIs x)) t (λ j. lengthIn (stepIs (sym f j))) h i; at = m .at })
+pub step-told : (k a : outcome.Stepping) (t : Stepping) → a ≡ k → stepping a ≡ t → stepping k ≡ t
+step-told k a t e h = ap stepping (sym e) ∙ h
+
+-- of a step in hand, by its answer x, as a match found it
+pub found-told : (m : Stepped) (x : Step) (t : Sizing) → m .answer ≡ x → sizing (lengthIn (stepIs x)) ≡ t → stepping (steppedIs m) ≡ record { answer = t; at = m .at }
+found-told m x t f h i = record { answer = size-told (lengthIn (stepIs (m .answer))) (lengthIn (stepIs x)) t (λ j. lengthIn (stepIs (sym f j))) h i; at = m .at }

@@ -14,7 +14,7 @@ use Rattle.standard.specs.Kinds.{kinds, styleOf, isKind, fair, flaw}
 use Rattle.standard.specs.Table.{most, allowed, ranged, letters, children, naming, spotIn, letter, several, row, tree, spent, table}
 use Rattle.standard.specs.Encode.{shortEnd, encode, compact}
 use Rattle.standard.specs.Facts.{T-true}
-use Rattle.standard.specs.Outcomes.{levelMost, bytesOf, size}
+use Rattle.standard.specs.Outcomes.{levelDefault, inForce, bytesOf, size}
 
 -- a list is all of its own length
 taken : (n : ℕ) (x : List ℕ) → length x ≡ n → take n x ≡ x
@@ -24,8 +24,8 @@ dropped : (n : ℕ) (x : List ℕ) → length x ≡ n → drop n x ≡ []
 dropped n x e = ap (drop n) (sym (append-nil x)) ∙ drop-at x [] n e
 
 -- a binary too long for the short form takes five bytes more than it has
-binary : (n : ℕ) (x : List ℕ) → length x ≡ n → leb n most ≡ true → ltb n shortEnd ≡ false → size levelMost (0xb0 ∷ n ∷ []) x ≡ _>>_ (need (leb (suc (suc (suc (suc (suc n))))) most) tooLong (at 0)) (got (suc (suc (suc (suc (suc n))))))
-unfolding size bytesOf table tree row several letter spent allowed ranged letters children naming spotIn styleOf lookup kinds isKind fair flaw encode compact be
+binary : (n : ℕ) (x : List ℕ) → length x ≡ n → leb n most ≡ true → ltb n shortEnd ≡ false → size levelDefault (0xb0 ∷ n ∷ []) x ≡ _>>_ (need (leb (suc (suc (suc (suc (suc n))))) most) tooLong (at 0)) (got (suc (suc (suc (suc (suc n))))))
+unfolding size bytesOf inForce table tree row several letter spent allowed ranged letters children naming spotIn styleOf lookup kinds isKind fair flaw encode compact be
 binary n x e m s = rw (m, T-true (leb n (length x)) (le→leb n (length x) (omega arith)), taken n x e, dropped n x e, s, e) (last (leb (suc (suc (suc (suc (suc n))))) most))
   where
     last : (b : Bool) → _>>=_ (_>>=_ (need b tooLong (at 0)) (λ u. got (0xb0 ∷ be 4 n ++ x))) (λ bs. got (length bs)) ≡ _>>_ (need b tooLong (at 0)) (got (suc (suc (suc (suc (suc n))))))
@@ -33,8 +33,8 @@ binary n x e m s = rw (m, T-true (leb n (length x)) (le→leb n (length x) (omeg
     last false = refl
 
 -- a binary of 1,048,571 bytes takes exactly 1,048,576; one more is too long
-pub longest : (x : List ℕ) → length x ≡ 1048571 → size levelMost (0xb0 ∷ 1048571 ∷ []) x ≡ got 1048576
+pub longest : (x : List ℕ) → length x ≡ 1048571 → size levelDefault (0xb0 ∷ 1048571 ∷ []) x ≡ got 1048576
 longest x e = binary 1048571 x e refl refl
 
-pub longer : (x : List ℕ) → length x ≡ 1048572 → size levelMost (0xb0 ∷ 1048572 ∷ []) x ≡ refuse 7 (at 0)
+pub longer : (x : List ℕ) → length x ≡ 1048572 → size levelDefault (0xb0 ∷ 1048572 ∷ []) x ≡ refuse 7 (at 0)
 longer x e = binary 1048572 x e refl refl

@@ -15,12 +15,14 @@ use Rattle.standard.specs.Kinds.{styleOf, isKind, fair, clean, paired}
 use Rattle.standard.specs.Read.{cut, plain, leaf, many, done, fields, held, items, inside, coded, behind, payload, value, front}
 use Rattle.standard.specs.Table.{most, Spot, any, allowed, naming, ranged, letters, children, spotIn, letter, several, row, tree, spent, table}
 use Rattle.standard.specs.Encode.{encode}
-use Rattle.standard.specs.Outcomes.{Extent, extent, bytesOf, size, writtenTo, write, measure, readInto, read, Step, end, part, refused, stepped, stepIn, step}
+use Rattle.standard.specs.Outcomes.{inForce, Extent, extent, bytesOf, size, writtenTo, write, arrived, measure, readInto, read, Step, end, part, refused, stepped, stepIn, step}
+use Rattle.standard.specs.Facts.{T-true}
 use Rattle.laws.specs.Answers.{Holds, yes′, on}
 use Rattle.laws.specs.Bounds.{small as at-most}
-use Rattle.laws.specs.Unique.{front-sound}
+use Rattle.laws.specs.Unique.{arrived-sound}
 
--- The refusals of sizing, 1 to 7; of writing, 1 to 8; of measuring, 3, 4 and 9 to 12; of reading, these and 13 and 14
+-- The refusals at a level limit in force: of sizing, 1 to 7; of writing, 1 to 8; of measuring, 3, 4 and 9 to 12; of reading, these and 13 and 14. At any other limit
+-- the refusal is 15 (`sizeLimit` and its like in Demand1.antt)
 
 abbrev pub ofSize : List ℕ
 ofSize = rowsAmiss ∷ kindUnknown ∷ tooDeep ∷ elementUnfit ∷ numberOutside ∷ textAmiss ∷ tooLong ∷ []
@@ -100,22 +102,22 @@ table-range : (l : ℕ) (w x : List ℕ) → Within ofSize (table l w x)
 unfolding table
 table-range l w x = then (needed (eqb (length w % 2) 0) rowsAmiss (at 0) tt) (λ u. then (tree-range l any 0 w x) (λ a. then (spent-range rowsAmiss ((length w - length (a .1)) / 2) (a .1) tt) (λ u. then (spent-range textAmiss (length w / 2) (a .2) tt) (λ u. value′))))
 
-bytes-range : (l : ℕ) (w x : List ℕ) → Within ofSize (bytesOf l w x)
+bytes-range : (l : ℕ) (w x : List ℕ) → T (inForce l) → Within ofSize (bytesOf l w x)
 unfolding bytesOf
-bytes-range l w x = then (table-range l w x) (λ v. then (needed (leb (length (encode v)) most) tooLong (at 0) tt) (λ u. value′))
+bytes-range l w x t = rw (T-true (inForce l) t) (then (table-range l w x) (λ v. then (needed (leb (length (encode v)) most) tooLong (at 0) tt) (λ u. value′)))
 
-pub size-range : (l : ℕ) (w x : List ℕ) → Within ofSize (size l w x)
+pub size-range : (l : ℕ) (w x : List ℕ) → T (inForce l) → Within ofSize (size l w x)
 unfolding size
-size-range l w x = then (bytes-range l w x) (λ bs. value′)
+size-range l w x t = then (bytes-range l w x t) (λ bs. value′)
 
 written-range : {xs : List ℕ} (o : List ℕ) (m : Answer (List ℕ)) → Within xs m → Within xs (writtenTo o m .answer)
 unfolding writtenTo
 written-range o (got bs) h = value′
 written-range o (refuse x p) (refusal′ h) = refusal′ h
 
-pub write-range : (l : ℕ) (w x o : List ℕ) → Within ofWrite (write l w x o .answer)
+pub write-range : (l : ℕ) (w x o : List ℕ) → T (inForce l) → Within ofWrite (write l w x o .answer)
 unfolding write
-write-range l w x o = written-range o _ (then (wider (outputShort ∷ []) (bytes-range l w x)) (λ bs. then (needed (leb (length bs) (length o)) outputShort (at 0) tt) (λ u. value′)))
+write-range l w x o t = written-range o _ (then (wider (outputShort ∷ []) (bytes-range l w x t)) (λ bs. then (needed (leb (length bs) (length o)) outputShort (at 0) tt) (λ u. value′)))
 
 -- Measuring and reading
 
@@ -194,18 +196,22 @@ front-range : (l : ℕ) (r : List ℕ) → Within ofMeasure (front l r)
 unfolding front value
 front-range l r = coded-range (λ e q s. payload l e q s) (payload-range l) l 0 r
 
-pub measure-range : (l : ℕ) (r : List ℕ) → Within ofMeasure (measure l r)
+arrived-range : (l : ℕ) (r : List ℕ) → T (inForce l) → Within ofMeasure (arrived l r)
+unfolding arrived
+arrived-range l r t = rw (T-true (inForce l) t) (front-range l r)
+
+pub measure-range : (l : ℕ) (r : List ℕ) → T (inForce l) → Within ofMeasure (measure l r)
 unfolding measure
-measure-range l r = then (front-range l r) (λ x. value′)
+measure-range l r t = then (arrived-range l r t) (λ x. value′)
 
 read-into-range : {xs : List ℕ} (w x : List ℕ) (m : Answer (Tree × ℕ)) → Within xs m → Within xs (readInto w x m .answer)
 unfolding readInto
 read-into-range w x (got (v, n)) h = value′
 read-into-range w x (refuse a p) (refusal′ h) = refusal′ h
 
-pub read-range : (l : ℕ) (r w x : List ℕ) → Within ofRead (read l r w x .answer)
+pub read-range : (l : ℕ) (r w x : List ℕ) → T (inForce l) → Within ofRead (read l r w x .answer)
 unfolding read
-read-range l r w x = read-into-range w x _ (then (wider (rowsShort ∷ textShort ∷ []) (front-range l r)) (λ y. then (needed (leb (tall (y .0)) (length w / 2)) rowsShort (at 0) tt) (λ u. then (needed (leb (length (text (y .0))) (length x)) textShort (at 0) tt) (λ u. value′))))
+read-range l r w x t = read-into-range w x _ (then (wider (rowsShort ∷ textShort ∷ []) (arrived-range l r t)) (λ y. then (needed (leb (tall (y .0)) (length w / 2)) rowsShort (at 0) tt) (λ u. then (needed (leb (length (text (y .0))) (length x)) textShort (at 0) tt) (λ u. value′))))
 
 -- Lengths
 
@@ -216,25 +222,25 @@ tall-some (node k n t cs) = omega arith
 -- a value that is measured has at least a byte
 pub measured-some : (l : ℕ) (r : List ℕ) → Holds (λ e. 1 ≤ e .length) (measure l r)
 unfolding measure
-measured-some l r = on (front-sound l r) (λ x h. yes′ {a = extent (x .0) (length r - length (x .1))}
+measured-some l r = on (arrived-sound l r) (λ x (t, h). yes′ {a = extent (x .0) (length r - length (x .1))}
     (omega (arith, ap length (h .split), length-append (h .front) (x .1), at-most l (x .0) (h .front) (h .holds) .height, tall-some (x .0))))
 
--- a step finds the end, a value of at least a byte, or a refusal of measuring
-abbrev pub StepRange : Step → Type 0
-StepRange end = Unit {0}
-StepRange (part i n) = 1 ≤ n
-StepRange (refused x p) = T (among ofMeasure x)
+-- a step finds the end, a value of at least a byte, or a refusal with one of these numbers
+abbrev pub StepRange : (numbers : List ℕ) → Step → Type 0
+StepRange xs end = Unit {0}
+StepRange xs (part i n) = 1 ≤ n
+StepRange xs (refused x p) = T (among xs x)
 
-stepped-range : (i : ℕ) (m : Answer Extent) → Within ofMeasure m → Holds (λ e. 1 ≤ e .length) m → StepRange (stepped i m .answer)
+stepped-range : (i : ℕ) (m : Answer Extent) → Within ofMeasure m → Holds (λ e. 1 ≤ e .length) m → StepRange ofMeasure (stepped i m .answer)
 unfolding stepped
 stepped-range i (got e) h (yes′ j) = j
 stepped-range i (refuse x p) (refusal′ h) j = h
 
-step-in-range : (l i : ℕ) (s : List ℕ) → StepRange (stepIn l i s .answer)
+step-in-range : (l i : ℕ) (s : List ℕ) → T (inForce l) → StepRange ofMeasure (stepIn l i s .answer)
 unfolding stepIn
-step-in-range l i [] = tt
-step-in-range l i (b ∷ s) = stepped-range i (measure l (b ∷ s)) (measure-range l (b ∷ s)) (measured-some l (b ∷ s))
+step-in-range l i [] t = tt
+step-in-range l i (b ∷ s) t = stepped-range i (measure l (b ∷ s)) (measure-range l (b ∷ s) t) (measured-some l (b ∷ s))
 
-pub step-range : (l : ℕ) (r : List ℕ) (i : ℕ) → StepRange (step l r i .answer)
+pub step-range : (l : ℕ) (r : List ℕ) (i : ℕ) → T (inForce l) → StepRange ofMeasure (step l r i .answer)
 unfolding step
-step-range l r i = step-in-range l i (drop i r)
+step-range l r i t = rw (T-true (inForce l) t) (step-in-range l i (drop i r) t)

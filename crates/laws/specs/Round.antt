@@ -2,14 +2,14 @@
 use Prim.Native.Nat.{ℕ, _≤_}
 use mathlib.Core.Path.{_≡_, refl, sym, ap, _∙_}
 use mathlib.Core.List.{List, [], _++_, append-nil}
-use lib.Dec.{leb, leb→le}
+use lib.Dec.{T, leb, leb→le}
 use lib.ListN.{length}
-use Rattle.standard.specs.Answer.{got, at, tooLong}
+use Rattle.standard.specs.Answer.{got, at, tooLong, limitOutside}
 use Rattle.standard.specs.Tree.{Tree, rows, text}
 use Rattle.standard.specs.Grammar.{Formed}
 use Rattle.standard.specs.Table.{most, any, Valid}
 use Rattle.standard.specs.Encode.{encode}
-use Rattle.standard.specs.Outcomes.{bytesOf}
+use Rattle.standard.specs.Outcomes.{inForce, bytesOf}
 use Rattle.laws.specs.Answers.{Holds, yes′, on, out, need-holds}
 use Rattle.laws.specs.Unique.{unique}
 use Rattle.laws.specs.Written.{well-formed}
@@ -17,6 +17,7 @@ use Rattle.laws.specs.Tables.{table-sound}
 
 -- What is known of a table that is written to those bytes
 pub record Wrote (levels : ℕ) (words letters bytes : List ℕ) : Type 0 where
+  pub limit : T (inForce levels)
   pub tree : Tree
   pub rowsAre : words ≡ rows tree
   pub textIs : letters ≡ text tree
@@ -27,9 +28,9 @@ pub record Wrote (levels : ℕ) (words letters bytes : List ℕ) : Type 0 where
 
 wrote-all : (l : ℕ) (w x : List ℕ) → Holds (λ a. Wrote l w x a) (bytesOf l w x)
 unfolding bytesOf
-wrote-all l w x = on (table-sound l w x) (λ v h. on (need-holds (leb (length (encode v)) most) tooLong (at 0)) (λ u t.
+wrote-all l w x = on (need-holds (inForce l) limitOutside (at 0)) (λ u o. on (table-sound l w x) (λ v h. on (need-holds (leb (length (encode v)) most) tooLong (at 0)) (λ u t.
     let s : length (encode v) ≤ most = leb→le (length (encode v)) most t in
-    yes′ record { tree = v; rowsAre = h .0; textIs = h .1; valid = h .2; bytesAre = refl; small = s; formed = well-formed l v (h .2) s }))
+    yes′ record { limit = o; tree = v; rowsAre = h .0; textIs = h .1; valid = h .2; bytesAre = refl; small = s; formed = well-formed l v (h .2) s })))
 
 pub wrote : (l : ℕ) (w x bs : List ℕ) → bytesOf l w x ≡ got bs → Wrote l w x bs
 wrote l w x bs e = out (rw e at (wrote-all l w x))

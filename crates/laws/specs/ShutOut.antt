@@ -1,23 +1,25 @@
 -- Programs that no promise may let through, each shut out by a theorem: whoever keeps the promise is not this program. Promise and program speak of memory
--- that can be lent, and of no other. Beside each theorem stands a program that it shuts out, which keeps the length of all that it is lent: the theorem
+-- that can be lent, and of no other, and hold at every level limit in force. Beside each theorem stands a program that it shuts out, which keeps the length of all that it is lent: the theorem
 -- is not true for want of such programs. The promise is the equation to an outcome of Outcomes.antt; that it is what the code's own contracts state is in the
 -- files ShutOut.antt of the writer and of the reader.
 use Prim.Native.Nat.{ℕ, zero, suc, _^_, _<_}
 use mathlib.Core.Path.{_≡_, refl, sym, ap, _∙_}
 use mathlib.Core.List.{List, [], _∷_}
+use mathlib.Core.Bool.{true}
 use native.Mathlib.Omega.{arith}
-use lib.Dec.{lit<}
+use lib.Dec.{T, lit<}
 use lib.ListN.{length}
 use Rattle.standard.specs.Answer.{Answer, got, refuse, at, outputShort, rowsShort}
 use Rattle.standard.specs.Choose.{lookup}
 use Rattle.standard.specs.Bytes.{be, spell}
 use Rattle.standard.specs.Codes.{codes, entryOf, isCode}
 use Rattle.standard.specs.Kinds.{kinds, styleOf, isKind, fair, flaw}
+use Rattle.standard.specs.Facts.{T-true}
 use Rattle.standard.specs.Tree.{rows, text, tall}
 use Rattle.standard.specs.Read.{cut, plain, leaf, coded, behind, payload, value, front}
 use Rattle.standard.specs.Table.{allowed, naming, ranged, letters, children, spotIn, letter, several, row, tree, spent, table}
 use Rattle.standard.specs.Encode.{encode, compact, shortest}
-use Rattle.standard.specs.Outcomes.{levelMost, over, bytesOf, Writing, writtenTo, write, Extent, measure, Reading, readInto, read, Step, end, part, Stepping, stepped, stepIn, step}
+use Rattle.standard.specs.Outcomes.{inForce, over, bytesOf, Writing, writtenTo, write, Extent, arrived, measure, Reading, readInto, read, Step, end, part, Stepping, stepped, stepIn, step}
 use Rattle.laws.specs.Demand3.{Begins, demand3}
 
 -- Memory that can be lent: numbers of so many bits, no more of them than memory holds
@@ -44,26 +46,26 @@ one-row k n h i = record { each = (omega arith, (omega arith, tt)); few = lit< t
 abbrev pub Writer : Type 0
 Writer = (words letters out : List ℕ) → Writing
 
-abbrev pub Writes : Writer → Type 0
-Writes f = (w x o : List ℕ) → Lent 64 w → Lent 8 x → Lent 8 o → f w x o ≡ write levelMost w x o
+abbrev pub Writes : (limit : ℕ) → Writer → Type 0
+Writes l f = (w x o : List ℕ) → Lent 64 w → Lent 8 x → Lent 8 o → f w x o ≡ write l w x o
 
 abbrev pub Reader : Type 0
 Reader = (bytes words letters : List ℕ) → Reading
 
-abbrev pub Reads : Reader → Type 0
-Reads f = (r w x : List ℕ) → Lent 8 r → Lent 64 w → Lent 8 x → f r w x ≡ read levelMost r w x
+abbrev pub Reads : (limit : ℕ) → Reader → Type 0
+Reads l f = (r w x : List ℕ) → Lent 8 r → Lent 64 w → Lent 8 x → f r w x ≡ read l r w x
 
 abbrev pub Measurer : Type 0
 Measurer = (bytes : List ℕ) → Answer Extent
 
-abbrev pub Measures : Measurer → Type 0
-Measures f = (r : List ℕ) → Lent 8 r → f r ≡ measure levelMost r
+abbrev pub Measures : (limit : ℕ) → Measurer → Type 0
+Measures l f = (r : List ℕ) → Lent 8 r → f r ≡ measure l r
 
 abbrev pub Walker : Type 0
 Walker = (bytes : List ℕ) → (place : ℕ) → Stepping
 
-abbrev pub Steps : Walker → Type 0
-Steps f = (r : List ℕ) (i : ℕ) → Lent 8 r → f r i ≡ step levelMost r i
+abbrev pub Steps : (limit : ℕ) → Walker → Type 0
+Steps l f = (r : List ℕ) (i : ℕ) → Lent 8 r → f r i ≡ step l r i
 
 -- a program that does so, and keeps the length of what it is lent
 pub record AWriter (P : Writer → Type 0) : Type 0 where
@@ -77,30 +79,39 @@ pub record AReader (P : Reader → Type 0) : Type 0 where
   pub wordsLong : (r w x : List ℕ) → length (program r w x .words) ≡ length w
   pub textLong : (r w x : List ℕ) → length (program r w x .letters) ≡ length x
 
--- The outcomes that tell: null and uint 0 written into one byte; bytes 40 and 43 read into one row; two nulls walked
+-- The outcomes that tell: null and uint 0 written into one byte; bytes 40 and 43 read into one row; two nulls walked. One level is enough for each
 
-null-written : write levelMost (0x40 ∷ 0 ∷ []) [] (0 ∷ []) ≡ record { answer = got 1; out = 0x40 ∷ [] }
-unfolding write writtenTo bytesOf table tree row several letter spent allowed naming ranged letters children spotIn styleOf lookup kinds isKind fair flaw encode compact shortest be
-null-written = refl
+no-level : T (inForce 0) → ⊥
+unfolding inForce
+no-level t = t
 
-zero-written : write levelMost (0x70 ∷ 0 ∷ []) [] (0 ∷ []) ≡ record { answer = got 1; out = 0x43 ∷ [] }
+null-written : (l : ℕ) → T (inForce l) → write l (0x40 ∷ 0 ∷ []) [] (0 ∷ []) ≡ record { answer = got 1; out = 0x40 ∷ [] }
 unfolding write writtenTo bytesOf table tree row several letter spent allowed naming ranged letters children spotIn styleOf lookup kinds isKind fair flaw encode compact shortest be
-zero-written = refl
+null-written zero t = absurd (no-level t)
+null-written (suc k) t = rw (T-true (inForce (suc k)) t)
+
+zero-written : (l : ℕ) → T (inForce l) → write l (0x70 ∷ 0 ∷ []) [] (0 ∷ []) ≡ record { answer = got 1; out = 0x43 ∷ [] }
+unfolding write writtenTo bytesOf table tree row several letter spent allowed naming ranged letters children spotIn styleOf lookup kinds isKind fair flaw encode compact shortest be
+zero-written zero t = absurd (no-level t)
+zero-written (suc k) t = rw (T-true (inForce (suc k)) t)
 
 abbrev read-row : (kind : ℕ) → Reading
 read-row k = record { answer = got (record { length = 1; rows = 1; text = 0 }); words = k ∷ 0 ∷ []; letters = [] }
 
-null-read : read levelMost (0x40 ∷ []) (0 ∷ 0 ∷ []) [] ≡ read-row 0x40
-unfolding read readInto front value payload behind coded leaf plain cut codes entryOf isCode lookup spell fair flaw tall rows text
-null-read = refl
+null-read : (l : ℕ) → T (inForce l) → read l (0x40 ∷ []) (0 ∷ 0 ∷ []) [] ≡ read-row 0x40
+unfolding read readInto arrived front value payload behind coded leaf plain cut codes entryOf isCode lookup spell fair flaw tall rows text
+null-read zero t = absurd (no-level t)
+null-read (suc k) t = rw (T-true (inForce (suc k)) t)
 
-zero-read : read levelMost (0x43 ∷ []) (0 ∷ 0 ∷ []) [] ≡ read-row 0x70
-unfolding read readInto front value payload behind coded leaf plain cut codes entryOf isCode lookup spell fair flaw tall rows text
-zero-read = refl
+zero-read : (l : ℕ) → T (inForce l) → read l (0x43 ∷ []) (0 ∷ 0 ∷ []) [] ≡ read-row 0x70
+unfolding read readInto arrived front value payload behind coded leaf plain cut codes entryOf isCode lookup spell fair flaw tall rows text
+zero-read zero t = absurd (no-level t)
+zero-read (suc k) t = rw (T-true (inForce (suc k)) t)
 
-null-measured : measure levelMost (0x40 ∷ []) ≡ got (record { length = 1; rows = 1; text = 0 })
-unfolding measure front value payload behind coded leaf plain cut codes entryOf isCode lookup spell fair flaw tall rows text
-null-measured = refl
+null-measured : (l : ℕ) → T (inForce l) → measure l (0x40 ∷ []) ≡ got (record { length = 1; rows = 1; text = 0 })
+unfolding measure arrived front value payload behind coded leaf plain cut codes entryOf isCode lookup spell fair flaw tall rows text
+null-measured zero t = absurd (no-level t)
+null-measured (suc k) t = rw (T-true (inForce (suc k)) t)
 
 unfoldable pub two-nulls : List ℕ
 two-nulls = 0x40 ∷ 0x40 ∷ []
@@ -109,13 +120,15 @@ two-nulls-lent : Lent 8 two-nulls
 unfolding two-nulls
 two-nulls-lent = record { each = (lit< tt, (lit< tt, tt)); few = lit< tt }
 
-first-step : step levelMost two-nulls 0 ≡ record { answer = part 0 1; at = 1 }
-unfolding two-nulls step stepIn stepped measure front value payload behind coded leaf plain cut codes entryOf isCode lookup spell fair flaw tall rows text
-first-step = refl
+first-step : (l : ℕ) → T (inForce l) → step l two-nulls 0 ≡ record { answer = part 0 1; at = 1 }
+unfolding two-nulls step stepIn stepped measure arrived front value payload behind coded leaf plain cut codes entryOf isCode lookup spell fair flaw tall rows text
+first-step zero t = absurd (no-level t)
+first-step (suc k) t = rw (T-true (inForce (suc k)) t)
 
-pub second-step : step levelMost two-nulls 1 ≡ record { answer = part 1 1; at = 2 }
-unfolding two-nulls step stepIn stepped measure front value payload behind coded leaf plain cut codes entryOf isCode lookup spell fair flaw tall rows text
-second-step = refl
+pub second-step : (l : ℕ) → T (inForce l) → step l two-nulls 1 ≡ record { answer = part 1 1; at = 2 }
+unfolding two-nulls step stepIn stepped measure arrived front value payload behind coded leaf plain cut codes entryOf isCode lookup spell fair flaw tall rows text
+second-step zero t = absurd (no-level t)
+second-step (suc k) t = rw (T-true (inForce (suc k)) t)
 
 -- A writer that refuses everything
 
@@ -134,11 +147,11 @@ refuser = record {
 }
 
 -- what a writer that keeps the promise does with one row of kind k, number 0, and one byte
-told : (f : Writer) → Writes f → (k c : ℕ) → k < 256 → write levelMost (k ∷ 0 ∷ []) [] (0 ∷ []) ≡ record { answer = got 1; out = c ∷ [] } → f (k ∷ 0 ∷ []) [] (0 ∷ []) ≡ record { answer = got 1; out = c ∷ [] }
-told f p k c h e = p (k ∷ 0 ∷ []) [] (0 ∷ []) (one-row k 0 h (lit< tt)) no-bytes (one-byte 0 (lit< tt)) ∙ e
+told : (l : ℕ) (f : Writer) → Writes l f → (k c : ℕ) → k < 256 → write l (k ∷ 0 ∷ []) [] (0 ∷ []) ≡ record { answer = got 1; out = c ∷ [] } → f (k ∷ 0 ∷ []) [] (0 ∷ []) ≡ record { answer = got 1; out = c ∷ [] }
+told l f p k c h e = p (k ∷ 0 ∷ []) [] (0 ∷ []) (one-row k 0 h (lit< tt)) no-bytes (one-byte 0 (lit< tt)) ∙ e
 
-pub refuses-all : (f : Writer) → Writes f → RefusesAll f → ⊥
-refuses-all f p h = rw (told f p 0x40 0x40 (lit< tt) null-written) at (h (0x40 ∷ 0 ∷ []) [] (0 ∷ []) (one-row 0x40 0 (lit< tt) (lit< tt)) no-bytes (one-byte 0 (lit< tt)))
+pub refuses-all : (l : ℕ) → T (inForce l) → (f : Writer) → Writes l f → RefusesAll f → ⊥
+refuses-all l t f p h = rw (told l f p 0x40 0x40 (lit< tt) (null-written l t)) at (h (0x40 ∷ 0 ∷ []) [] (0 ∷ []) (one-row 0x40 0 (lit< tt) (lit< tt)) no-bytes (one-byte 0 (lit< tt)))
 
 -- A writer that, wherever it says yes, has written 40
 
@@ -162,11 +175,11 @@ forty-writer = record { program = forty; does = λ w x o n a b c. does w x o n; 
     long w x [] = refl
     long w x (b ∷ o) = refl
 
-pub writes-forty : (f : Writer) → Writes f → WritesForty f → ⊥
-writes-forty f p h =
-    let t = told f p 0x70 0x43 (lit< tt) zero-written in
+pub writes-forty : (l : ℕ) → T (inForce l) → (f : Writer) → Writes l f → WritesForty f → ⊥
+writes-forty l t f p h =
+    let q = told l f p 0x70 0x43 (lit< tt) (zero-written l t) in
     let e : _≡_ {A = List ℕ} (0x43 ∷ []) (0x40 ∷ []) =
-    sym (ap (λ r. r .out) t) ∙ h (0x70 ∷ 0 ∷ []) [] (0 ∷ []) 1 (one-row 0x70 0 (lit< tt) (lit< tt)) no-bytes (one-byte 0 (lit< tt)) (ap (λ r. r .answer) t) in
+    sym (ap (λ r. r .out) q) ∙ h (0x70 ∷ 0 ∷ []) [] (0 ∷ []) 1 (one-row 0x70 0 (lit< tt) (lit< tt)) no-bytes (one-byte 0 (lit< tt)) (ap (λ r. r .answer) q) in
     let i : _≡_ {A = ℕ} 0x43 0x40 = cc in omega (arith, i)
 
 -- A writer that says yes and writes nothing
@@ -181,11 +194,11 @@ idler = record {
   long = λ w x o. refl;
 }
 
-pub writes-nothing : (f : Writer) → Writes f → WritesNothing f → ⊥
-writes-nothing f p h =
-    let t = told f p 0x40 0x40 (lit< tt) null-written in
+pub writes-nothing : (l : ℕ) → T (inForce l) → (f : Writer) → Writes l f → WritesNothing f → ⊥
+writes-nothing l t f p h =
+    let q = told l f p 0x40 0x40 (lit< tt) (null-written l t) in
     let e : _≡_ {A = List ℕ} (0x40 ∷ []) (0 ∷ []) =
-    sym (ap (λ r. r .out) t) ∙ h (0x40 ∷ 0 ∷ []) [] (0 ∷ []) 1 (one-row 0x40 0 (lit< tt) (lit< tt)) no-bytes (one-byte 0 (lit< tt)) (ap (λ r. r .answer) t) in
+    sym (ap (λ r. r .out) q) ∙ h (0x40 ∷ 0 ∷ []) [] (0 ∷ []) 1 (one-row 0x40 0 (lit< tt) (lit< tt)) no-bytes (one-byte 0 (lit< tt)) (ap (λ r. r .answer) q) in
     let i : _≡_ {A = ℕ} 0x40 0 = cc in omega (arith, i)
 
 -- A reader that, wherever it gives a table, gives always the same
@@ -218,60 +231,60 @@ one-table-reader = record { program = nuller; does = λ r w x e a b c. does r w 
     textual r (a ∷ []) x = refl
     textual r (a ∷ b ∷ w) x = refl
 
-pub gives-one-table : (f : Reader) → Reads f → (table : List ℕ) → GivesOneTable table f → ⊥
-gives-one-table f p t h =
-    let i : (b k : ℕ) → b < 256 → read levelMost (b ∷ []) (0 ∷ 0 ∷ []) [] ≡ read-row k → _≡_ {A = List ℕ} (k ∷ 0 ∷ []) (over t (0 ∷ 0 ∷ [])) = λ b k o e.
+pub gives-one-table : (l : ℕ) → T (inForce l) → (f : Reader) → Reads l f → (table : List ℕ) → GivesOneTable table f → ⊥
+gives-one-table l u f p t h =
+    let i : (b k : ℕ) → b < 256 → read l (b ∷ []) (0 ∷ 0 ∷ []) [] ≡ read-row k → _≡_ {A = List ℕ} (k ∷ 0 ∷ []) (over t (0 ∷ 0 ∷ [])) = λ b k o e.
     let a = p (b ∷ []) (0 ∷ 0 ∷ []) [] (one-byte b o) (one-row 0 0 (lit< tt) (lit< tt)) no-bytes ∙ e in
     sym (ap (λ r. r .words) a) ∙ h (b ∷ []) (0 ∷ 0 ∷ []) [] (record { length = 1; rows = 1; text = 0 }) (one-byte b o) (one-row 0 0 (lit< tt) (lit< tt)) no-bytes (ap (λ r. r .answer) a) in
-    let e : _≡_ {A = List ℕ} (0x40 ∷ 0 ∷ []) (0x70 ∷ 0 ∷ []) = i 0x40 0x40 (lit< tt) null-read ∙ sym (i 0x43 0x70 (lit< tt) zero-read) in
+    let e : _≡_ {A = List ℕ} (0x40 ∷ 0 ∷ []) (0x70 ∷ 0 ∷ []) = i 0x40 0x40 (lit< tt) (null-read l u) ∙ sym (i 0x43 0x70 (lit< tt) (zero-read l u)) in
     let j : _≡_ {A = ℕ} 0x40 0x70 = cc in omega (arith, j)
 
 -- A reader that reports a length, rows or text that it made up: of no well-formed beginning. It may do so in measuring or in reading
 
-pub record Invents (answer : Answer Extent) (bytes : List ℕ) : Type 0 where
+pub record Invents (limit : ℕ) (answer : Answer Extent) (bytes : List ℕ) : Type 0 where
   pub lent : Lent 8 bytes
   pub extent : Extent
   pub says : answer ≡ got extent
-  pub untrue : Begins levelMost bytes extent → ⊥
+  pub untrue : Begins limit bytes extent → ⊥
 
-abbrev pub MakesUp : Measurer → Type 0
-MakesUp f = (r : List ℕ) × Invents (f r) r
+abbrev pub MakesUp : (limit : ℕ) → Measurer → Type 0
+MakesUp l f = (r : List ℕ) × Invents l (f r) r
 
-abbrev pub MakesUpReading : Reader → Type 0
-MakesUpReading f = (r w x : List ℕ) × Lent 64 w × Lent 8 x × Invents (f r w x .answer) r
+abbrev pub MakesUpReading : (limit : ℕ) → Reader → Type 0
+MakesUpReading l f = (r w x : List ℕ) × Lent 64 w × Lent 8 x × Invents l (f r w x .answer) r
 
 two-for-one : Extent
 two-for-one = record { length = 2; rows = 1; text = 0 }
 
 -- null has one byte, not two
-invented : Invents (got two-for-one) (0x40 ∷ [])
+invented : (l : ℕ) → T (inForce l) → Invents l (got two-for-one) (0x40 ∷ [])
 unfolding two-for-one
-invented = record {
+invented l t = record {
   lent = one-byte 0x40 (lit< tt);
   extent = two-for-one;
   says = refl;
   untrue = λ b.
-      let e : _≡_ {A = Answer Extent} (got (record { length = 1; rows = 1; text = 0 })) (got two-for-one) = sym null-measured ∙ demand3 .whenever levelMost (0x40 ∷ []) two-for-one b in
+      let e : _≡_ {A = Answer Extent} (got (record { length = 1; rows = 1; text = 0 })) (got two-for-one) = sym (null-measured l t) ∙ demand3 .whenever l (0x40 ∷ []) two-for-one b in
       let i : _≡_ {A = Extent} (record { length = 1; rows = 1; text = 0 }) two-for-one = cc in
       let j : _≡_ {A = ℕ} 1 2 = ap (λ (z : Extent). z .length) i in omega (arith, j);
 }
 
-inventor : (f : Measurer) × MakesUp f
-inventor = (λ r. got two-for-one, (0x40 ∷ [], invented))
+inventor : (l : ℕ) → T (inForce l) → (f : Measurer) × MakesUp l f
+inventor l t = (λ r. got two-for-one, (0x40 ∷ [], invented l t))
 
-inventing-reader : AReader MakesUpReading
-inventing-reader = record {
+inventing-reader : (l : ℕ) → T (inForce l) → AReader (MakesUpReading l)
+inventing-reader l t = record {
   program = λ r w x. record { answer = got two-for-one; words = w; letters = x };
-  does = (0x40 ∷ [], 0 ∷ 0 ∷ [], [], one-row 0 0 (lit< tt) (lit< tt), no-bytes, invented);
+  does = (0x40 ∷ [], 0 ∷ 0 ∷ [], [], one-row 0 0 (lit< tt) (lit< tt), no-bytes, invented l t);
   wordsLong = λ r w x. refl;
   textLong = λ r w x. refl;
 }
 
-pub makes-up : (f : Measurer) → Measures f → MakesUp f → ⊥
-makes-up f p (r, h) = h .untrue (demand3 .reported levelMost r (h .extent) (sym (p r (h .lent)) ∙ h .says))
+pub makes-up : (l : ℕ) (f : Measurer) → Measures l f → MakesUp l f → ⊥
+makes-up l f p (r, h) = h .untrue (demand3 .reported l r (h .extent) (sym (p r (h .lent)) ∙ h .says))
 
-pub makes-up-reading : (f : Reader) → Reads f → MakesUpReading f → ⊥
-makes-up-reading f p (r, w, x, a, b, h) = h .untrue (demand3 .reported-read levelMost r w x (h .extent) (ap (λ z. z .answer) (sym (p r w x (h .lent) a b)) ∙ h .says))
+pub makes-up-reading : (l : ℕ) (f : Reader) → Reads l f → MakesUpReading l f → ⊥
+makes-up-reading l f p (r, w, x, a, b, h) = h .untrue (demand3 .reported-read l r w x (h .extent) (ap (λ z. z .answer) (sym (p r w x (h .lent) a b)) ∙ h .says))
 
 -- A walker that hands out the first value and then says done
 
@@ -290,9 +303,9 @@ hasty-walker = (hasty, does)
     does r zero a h = absurd (omega arith)
     does r (suc i) a h = refl
 
-pub done-at-once : (f : Walker) → Steps f → DoneAtOnce f → ⊥
-done-at-once f p h =
-    let e : _≡_ {A = Step} (part 1 1) end = sym (ap (λ s. s .answer) (p two-nulls 1 two-nulls-lent ∙ second-step)) ∙ h two-nulls 1 two-nulls-lent (lit< tt) in
+pub done-at-once : (l : ℕ) → T (inForce l) → (f : Walker) → Steps l f → DoneAtOnce f → ⊥
+done-at-once l t f p h =
+    let e : _≡_ {A = Step} (part 1 1) end = sym (ap (λ s. s .answer) (p two-nulls 1 two-nulls-lent ∙ second-step l t)) ∙ h two-nulls 1 two-nulls-lent (lit< tt) in
     let z : _≡_ {A = ℕ} 0 1 = cc in omega arith
 
 -- A walker that repeats the first value
@@ -303,8 +316,8 @@ Repeats f = (r : List ℕ) (i : ℕ) → Lent 8 r → f r i .answer ≡ f r 0 .a
 repeater : (f : Walker) × Repeats f
 repeater = (λ r i. record { answer = part 0 1; at = 1 }, λ r i a. refl)
 
-pub repeats : (f : Walker) → Steps f → Repeats f → ⊥
-repeats f p h =
+pub repeats : (l : ℕ) → T (inForce l) → (f : Walker) → Steps l f → Repeats f → ⊥
+repeats l t f p h =
     let e : _≡_ {A = Step} (part 1 1) (part 0 1) =
-    sym (ap (λ s. s .answer) (p two-nulls 1 two-nulls-lent ∙ second-step)) ∙ h two-nulls 1 two-nulls-lent ∙ ap (λ s. s .answer) (p two-nulls 0 two-nulls-lent ∙ first-step) in
+    sym (ap (λ s. s .answer) (p two-nulls 1 two-nulls-lent ∙ second-step l t)) ∙ h two-nulls 1 two-nulls-lent ∙ ap (λ s. s .answer) (p two-nulls 0 two-nulls-lent ∙ first-step l t) in
     let z : _≡_ {A = ℕ} 1 0 = cc in omega arith

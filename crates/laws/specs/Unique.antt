@@ -5,11 +5,14 @@ use mathlib.Core.List.{List, _++_}
 use native.Mathlib.Omega.{arith}
 use lib.ListN.{length, take, length-append}
 use lib.Seq.{take-append-seam, take-at}
-use Rattle.standard.specs.Answer.{got}
+use lib.Dec.{T}
+use Rattle.standard.specs.Answer.{got, at, limitOutside}
 use Rattle.standard.specs.Tree.{Tree}
 use Rattle.standard.specs.Grammar.{Formed}
 use Rattle.standard.specs.Read.{front}
-use Rattle.laws.specs.Answers.{Holds, weaken, out, Left}
+use Rattle.standard.specs.Facts.{T-true}
+use Rattle.standard.specs.Outcomes.{inForce, arrived}
+use Rattle.laws.specs.Answers.{Holds, on, weaken, out, need-holds, Left}
 use Rattle.laws.specs.Complete.{complete}
 use Rattle.laws.specs.Sound.{sound}
 
@@ -29,6 +32,18 @@ front-reads l r s v e = out (rw e at (front-sound l r))
 
 pub front-read : (l : ℕ) (r s : List ℕ) (v : Tree) → Left (Formed l v) r s → front l r ≡ got (v, s)
 front-read l r s v h = ap (front l) (h .split) ∙ front-complete l v (h .front) s (h .holds)
+
+-- the same of what arrives, at a limit that may be named
+pub arrived-complete : (l : ℕ) (v : Tree) (a rest : List ℕ) → T (inForce l) → Formed l v a → arrived l (a ++ rest) ≡ got (v, rest)
+unfolding arrived
+arrived-complete l v a rest t h = rw (T-true (inForce l) t) (front-complete l v a rest h)
+
+pub arrived-sound : (l : ℕ) (r : List ℕ) → Holds (λ x. T (inForce l) × Left (Formed l (x .0)) r (x .1)) (arrived l r)
+unfolding arrived
+arrived-sound l r = on (need-holds (inForce l) limitOutside (at 0)) (λ u t. weaken (front-sound l r) (λ x h. (t, h)))
+
+pub arrived-reads : (l : ℕ) (r s : List ℕ) (v : Tree) → arrived l r ≡ got (v, s) → T (inForce l) × Left (Formed l v) r s
+arrived-reads l r s v e = out (rw e at (arrived-sound l r))
 
 same-front : (a b r s : List ℕ) → r ≡ s → a ++ r ≡ b ++ s → a ≡ b
 same-front a b r s z e =

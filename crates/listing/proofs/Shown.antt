@@ -9,41 +9,35 @@ use lib.ListN.{length, take, drop, length-append}
 use lib.Seq.{take-at}
 use Rattle.standard.specs.Answer.{Answer, got, refuse, Place, at}
 use Rattle.standard.specs.Tree.{Tree, tall, rows, text}
-use Rattle.standard.specs.Grammar.{Form}
-use Rattle.standard.specs.Read.{front}
-use Rattle.standard.specs.Outcomes.{over, Extent, extent, readInto, read}
+use Rattle.standard.specs.Outcomes.{over, Extent, extent, arrived, readInto, read}
 use Rattle.standard.specs.Listing.{newline, largeWords, lines, shown, inputMost, listing}
 use Rattle.standard.specs.Facts.{if-case}
-use Rattle.laws.specs.Answers.{Left, out}
-use Rattle.laws.specs.Sound.{sound}
+use Rattle.laws.specs.Unique.{arrived-reads}
 use Rattle.laws.specs.Bounds.{rows-length, small}
 use Rattle.listing.specs.Lines.{endLine, refusedLine, Narrow, lineMost, outputMost, Roomy}
 use Rattle.listing.proofs.Decimals.{decimal-short}
 use Rattle.listing.proofs.Lines.{lines-short}
 use Rattle.listing.proofs.NarrowKinds.{rows-narrow}
 
--- what is known of a value at the front of an input
+-- what is known of a value that an input begins with
 record Value (b : List ℕ) (v : Tree) : Type 0 where
   height : tall v ≤ length b
   letters : length (text v) ≤ length b
   narrow : Narrow (rows v)
 
-value-of : (l : ℕ) (b : List ℕ) (v : Tree) (z : List ℕ) → front l b ≡ got (v, z) → Value b v
-unfolding front
-value-of l b v z e = go (out (rw e at (sound l 0 b)))
-  where
-    go : Left (Form l v) b z → Value b v
-    go f =
-        let s = small l v (f .front) (record { form = f .holds }) in
-        let n = simp length-append at (ap length (f .split)) in
-        record { height = omega (arith, s .height); letters = omega (arith, s .letters); narrow = rows-narrow l v (f .front) (f .holds) }
+value-of : (l : ℕ) (b : List ℕ) (v : Tree) (z : List ℕ) → arrived l b ≡ got (v, z) → Value b v
+value-of l b v z e =
+    let f = arrived-reads l b z v e .1 in
+    let s = small l v (f .front) (f .holds) in
+    let n = simp length-append at (ap length (f .split)) in
+    record { height = omega (arith, s .height); letters = omega (arith, s .letters); narrow = rows-narrow l v (f .front) (f .holds .form) }
 
 -- the listing of any input finds room
 pub listing-short : (l : ℕ) (b : List ℕ) → length (listing l b) ≤ outputMost
 unfolding listing shown
-listing-short l b = if-case (λ s. length s ≤ outputMost) (leb (length b) inputMost) (shown (length b) (front l b)) (largeWords ++ (newline ∷ [])) (λ t. go (leb→le (length b) inputMost t) (front l b) refl) (λ t. omega arith)
+listing-short l b = if-case (λ s. length s ≤ outputMost) (leb (length b) inputMost) (shown (length b) (arrived l b)) (largeWords ++ (newline ∷ [])) (λ t. go (leb→le (length b) inputMost t) (arrived l b) refl) (λ t. omega arith)
   where
-    go : length b ≤ inputMost → (f : Answer (Tree × List ℕ)) → front l b ≡ f → length (shown (length b) f) ≤ outputMost
+    go : length b ≤ inputMost → (f : Answer (Tree × List ℕ)) → arrived l b ≡ f → length (shown (length b) f) ≤ outputMost
     go h (got (v, z)) e = simp length-append (omega (arith, value-of l b v z e .height, lines-short 0 (rows v), rows-length v, decimal-short 20 (length b - length z)))
     go h (refuse x (at p)) e = simp length-append (omega (arith, decimal-short 20 x, decimal-short 20 p))
 
@@ -55,21 +49,21 @@ pub record Listed (levels : ℕ) (input words : List ℕ) (size rows : ℕ) : Ty
   pub shows : listing levels input ≡ lines 0 (take (2 * rows) words) ++ endLine size
 
 module _ (l : ℕ) (b : List ℕ) {w x o : List ℕ} (few : length b ≤ inputMost) (room : Roomy w x o) where
-  read-value : (v : Tree) (z : List ℕ) → front l b ≡ got (v, z) → read l b w x ≡ record { answer = got (extent v (length b - length z)); words = over (rows v) w; letters = over (text v) x }
+  read-value : (v : Tree) (z : List ℕ) → arrived l b ≡ got (v, z) → read l b w x ≡ record { answer = got (extent v (length b - length z)); words = over (rows v) w; letters = over (text v) x }
   unfolding read readInto
   read-value v z e =
       let h = value-of l b v z e in
       rw (e, le-leb (tall v) (length w / 2) (omega (arith, h .height, room .rowRoom)), le-leb (length (text v)) (length x) (omega (arith, h .letters, room .textRoom)))
 
-  read-refusal : (n : ℕ) (p : Place) → front l b ≡ refuse n p → read l b w x ≡ record { answer = refuse n p; words = w; letters = x }
+  read-refusal : (n : ℕ) (p : Place) → arrived l b ≡ refuse n p → read l b w x ≡ record { answer = refuse n p; words = w; letters = x }
   unfolding read readInto
   read-refusal n p e = rw e
 
   pub listed : (e : Extent) (words : List ℕ) → got e ≡ read l b w x .answer → words ≡ read l b w x .words → Listed l b words (e .length) (e .rows)
   unfolding listing shown
-  listed e words a c = go (front l b) refl
+  listed e words a c = go (arrived l b) refl
     where
-      go : (f : Answer (Tree × List ℕ)) → front l b ≡ f → Listed l b words (e .length) (e .rows)
+      go : (f : Answer (Tree × List ℕ)) → arrived l b ≡ f → Listed l b words (e .length) (e .rows)
       go (got (v, z)) i =
           let q : _≡_ {A = Answer Extent} (got e) (got (extent v (length b - length z))) = a ∙ ap (λ r. r .answer) (read-value v z i) in
           let j : e ≡ extent v (length b - length z) = cc in
@@ -84,9 +78,9 @@ module _ (l : ℕ) (b : List ℕ) {w x o : List ℕ} (few : length b ≤ inputMo
 
   pub refused : (n p : ℕ) → refuse n (at p) ≡ read l b w x .answer → listing l b ≡ refusedLine n p
   unfolding listing shown
-  refused n p a = go (front l b) refl
+  refused n p a = go (arrived l b) refl
     where
-      go : (f : Answer (Tree × List ℕ)) → front l b ≡ f → listing l b ≡ refusedLine n p
+      go : (f : Answer (Tree × List ℕ)) → arrived l b ≡ f → listing l b ≡ refusedLine n p
       go (got (v, z)) i =
           let q : _≡_ {A = Answer Extent} (refuse n (at p)) (got (extent v (length b - length z))) = a ∙ ap (λ r. r .answer) (read-value v z i) in
           let z : _≡_ {A = ℕ} 0 1 = cc in

@@ -10,6 +10,7 @@ mod put;
 use libc::STDIN_FILENO;
 use libc::STDOUT_FILENO;
 use reader::Measured;
+use standard::limit;
 
 // The most bytes that are taken.
 const INPUT_MOST: usize = 4096;
@@ -30,7 +31,7 @@ fn list(bytes: &[u8], words: &mut [u64], text: &mut [u8], out: &mut [u8]) -> usi
     if INPUT_MOST < size {
         return put::put_bytes(out, 0, b"input too large\n");
     }
-    match reader::read(bytes, words, text) {
+    match reader::read_within(limit::MOST, bytes, words, text) {
         Measured::Fits(e) => {
             let count = 2 * e.rows;
             let at = put::put_lines(out, 0, &words[..count]);

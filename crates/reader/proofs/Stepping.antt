@@ -6,10 +6,10 @@ use native.Mathlib.Omega.{arith}
 use lib.ListN.{length, take, drop, length-drop}
 use denote.Ref.{RefT, now}
 use Rattle.standard.specs.Answer.{Answer, got, refuse, _>>=_}
+use Rattle.standard.specs.Facts.{if-case}
 use Rattle.standard.specs.Tree.{Tree}
-use Rattle.standard.specs.Read.{front}
-use Rattle.standard.specs.Outcomes.{Extent, extent, measure, Stepping, stepped, stepIn, step, levelMost}
-use Rattle.laws.specs.Demand1.{step-on}
+use Rattle.standard.specs.Outcomes.{inForce, Extent, extent, arrived, measure, Stepping, stepped, stepIn, step}
+use Rattle.laws.specs.Demand1.{outside, step-on}
 use Rattle.laws.specs.Answers.{Holds, yes′, no′, out}
 use Rattle.reader.specs.InCode.{measuredIs, stepIs, steppedIs}
 use Rattle.reader.specs.Walking.{Inside, Part, stepOf, NextOf}
@@ -27,7 +27,7 @@ short n (refuse x p) = no′
 -- a value is no longer than what is measured
 pub no-longer : (l : ℕ) (r : List ℕ) → Holds (λ e. e .length ≤ length r) (measure l r)
 unfolding measure
-no-longer l r = short (length r) (front l r)
+no-longer l r = short (length r) (arrived l r)
 
 -- of a measuring that was made where bytes are left
 module _ (l i : ℕ) (r : List ℕ) (m : Measured) (h : i < length r) (e : measuredIs m ≡ measure l (take (length r - i) (drop i r))) where
@@ -56,17 +56,17 @@ left-inside l i n (b ∷ s) h = inside n i (length (b ∷ s)) (measure l (b ∷ 
 
 -- what a step hands out lies in the bytes
 pub step-within : (l i : ℕ) (r : List ℕ) → Inside (length r) (step l r i .answer)
-unfolding step
-step-within l i r = left-inside l i (length r) (drop i r) (λ h. omega (arith, length-drop i r))
+unfolding step stepped
+step-within l i r = if-case (λ s. Inside (length r) (s .answer)) (inForce l) (stepIn l i (drop i r)) (stepped i outside) (λ t. left-inside l i (length r) (drop i r) (λ h. omega (arith, length-drop i r))) (λ t. tt)
 
 -- what a walker makes of the step at its place
 module _ (w : Walker) (r : Stepped) (e : steppedIs r ≡ stepOf w) where
   pub found-within : Inside (length (now (w .bytes))) (stepIs (r .answer))
-  found-within = rw (ap (λ (s : Stepping). s .answer) e) (step-within levelMost (w .at) (now (w .bytes)))
+  found-within = rw (ap (λ (s : Stepping). s .answer) e) (step-within (w .limit) (w .at) (now (w .bytes)))
 
-  pub next-of : (p : RefT (List ℕ)) → Part (w .bytes) (stepIs (r .answer)) p → NextOf w (record { bytes = w .bytes; at = r .at }) (record { answer = r .answer; value = p })
+  pub next-of : (p : RefT (List ℕ)) → Part (w .bytes) (stepIs (r .answer)) p → NextOf w (record { bytes = w .bytes; at = r .at; limit = w .limit }) (record { answer = r .answer; value = p })
   next-of p h = record {
     answer = ap (λ (s : Stepping). s .answer) e;
     value = subst (λ (s : Stepping). Part (w .bytes) (s .answer) p) e h;
-    moved = ap (λ (s : Stepping). record { bytes = w .bytes; at = s .at }) e;
+    moved = ap (λ (s : Stepping). record { bytes = w .bytes; at = s .at; limit = w .limit }) e;
   }

@@ -4,10 +4,14 @@ use mathlib.Core.Path.{_≡_}
 use mathlib.Core.List.{List, []}
 use lib.ListN.{take, drop}
 use denote.Ref.{RefT, now, ptr}
-use Rattle.standard.specs.Outcomes.{Step, end, part, refused, Stepping, step, levelMost}
+use Rattle.standard.specs.Outcomes.{Step, end, part, refused, Stepping, step}
 use Rattle.reader.specs.InCode.{stepIs}
 use Rattle.reader.specs.declared.walker.Walker.{Walker}
 use Rattle.reader.specs.declared.walker.Next.{Next}
+
+-- a walker at the beginning of bytes
+abbrev pub fresh : (limit : ℕ) → RefT (List ℕ) → Walker
+fresh l b = record { bytes = b; at = 0; limit = l }
 
 -- what a step hands out of the bytes; where it finds no value, nothing
 abbrev pub handed : (bytes : List ℕ) → Step → List ℕ
@@ -34,10 +38,10 @@ pub record Part (b : RefT (List ℕ)) (s : Step) (p : RefT (List ℕ)) : Type 0 
 
 -- the step of a walker
 abbrev pub stepOf : Walker → Stepping
-stepOf w = step levelMost (now (w .bytes)) (w .at)
+stepOf w = step (w .limit) (now (w .bytes)) (w .at)
 
 -- what a walker hands out, and the walker afterwards
 pub record NextOf (walker after : Walker) (next : Next) : Type 0 where
   pub answer : stepIs (next .answer) ≡ stepOf walker .answer
   pub value : Part (walker .bytes) (stepOf walker .answer) (next .value)
-  pub moved : after ≡ record { bytes = walker .bytes; at = stepOf walker .at }
+  pub moved : after ≡ record { bytes = walker .bytes; at = stepOf walker .at; limit = walker .limit }

@@ -23,6 +23,7 @@ use crate::number::number_at;
 use standard::format_code;
 use standard::format_code::Layout;
 use standard::kind;
+use standard::limit;
 
 // In place of a code, for values that begin with their own. Every code is below it.
 const OWN: u64 = 256;
@@ -251,7 +252,7 @@ fn row_at(bytes: &[u8], at: usize, code: u64) -> Row
 }
 
 // Brings a run that has a value to the top: where the one on top is used up, the last that is kept.
-fn next_run(lefts: &[u64; kind::LEVELS], codes: &[u64; kind::LEVELS], due: Due) -> Due
+fn next_run(lefts: &[u64; limit::MOST], codes: &[u64; limit::MOST], due: Due) -> Due
     requires { ⌜ (1 ≤ length (dueIs (now lefts) (now codes) due)) × Kept (now lefts) (now codes) (due .kept) ⌝ }
     ensures { λ r. ⌜ Topped (now (lefts .entry)) (now (codes .entry)) due r ⌝ }
 {
@@ -268,8 +269,8 @@ fn next_run(lefts: &[u64; kind::LEVELS], codes: &[u64; kind::LEVELS], due: Due) 
 
 // What is due once the first value of the run on top is read: so many children of it behind that code, and then the others.
 fn after_row(
-    lefts: &mut [u64; kind::LEVELS],
-    codes: &mut [u64; kind::LEVELS],
+    lefts: &mut [u64; limit::MOST],
+    codes: &mut [u64; limit::MOST],
     due: Due,
     children: u64,
     code: u64,
@@ -321,8 +322,8 @@ pub(crate) fn fill(bytes: &[u8], words: &mut [u64], text: &mut [u8], rows: usize
     ensures { λ _. ⌜ (now (words .exit) ≡ over (rowsIn (front levelMost (now (bytes .entry)))) (now (words .entry)))
         × (now (text .exit) ≡ over (textIn (front levelMost (now (bytes .entry)))) (now (text .entry))) ⌝ }
 {
-    let mut lefts = [0u64; kind::LEVELS];
-    let mut codes = [0u64; kind::LEVELS];
+    let mut lefts = [0u64; limit::MOST];
+    let mut codes = [0u64; limit::MOST];
     let mut due = Due {
         left: 1,
         code: OWN,

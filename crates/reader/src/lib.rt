@@ -13,4 +13,6 @@ pub mod walker;
 pub use measuring::Extent;
 pub use measuring::Measured;
 pub use measuring::measure;
+pub use measuring::measure_within;
 pub use reading::read;
+pub use reading::read_within;

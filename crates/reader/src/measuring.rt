@@ -14,7 +14,7 @@ ghost use Rattle.standard.specs.Codes.{layoutOf};
 ghost use Rattle.standard.specs.Kinds.{fair, paired};
 ghost use Rattle.standard.specs.Read as read;
 ghost use Rattle.standard.specs.Outcomes as outcome;
-ghost use Rattle.standard.specs.Outcomes.{levelMost};
+ghost use Rattle.standard.specs.Outcomes.{levelDefault};
 ghost use Rattle.reader.specs.Entries.{narrow, sure, plainBelow, plainWidth, compoundWidth, compoundKind};
 ghost use Rattle.reader.specs.InCode.{measuredIs, bodyIs};
 ghost use Rattle.reader.specs.Measuring.{refused, block, measured, several, contents, above, closed, heldAt, below, reads, reach, codeAt, elementOf, tallyIs, Taking, Roomy, Within, Plain};
@@ -22,6 +22,7 @@ use crate::number::narrow_at;
 use standard::format_code;
 use standard::format_code::Layout;
 use standard::kind;
+use standard::limit;
 use standard::refusal;
 use standard::refusal::Refusal;
 
@@ -502,9 +503,19 @@ fn items(s: &[u8], code: u8, count: usize, whole: usize, place: usize, levels: u
     }
 }
 
-// Measures the value at the front of the bytes.
-pub fn measure(bytes: &[u8]) -> Measured
-    ensures { λ r. ⌜ measuredIs r ≡ outcome.measure levelMost (now (bytes .entry)) ⌝ }
+// Measures the value at the front of the bytes within a level limit.
+pub fn measure_within(limit: usize, bytes: &[u8]) -> Measured
+    ensures { λ r. ⌜ measuredIs r ≡ outcome.measure limit (now (bytes .entry)) ⌝ }
 {
-    many(bytes, Head::Own, 1, 0, kind::LEVELS)
+    if !limit::is_in_force(limit) {
+        return refuse(refusal::LIMIT_OUTSIDE, 0);
+    }
+    many(bytes, Head::Own, 1, 0, limit)
+}
+
+// Measures the value at the front of the bytes, within 16 levels.
+pub fn measure(bytes: &[u8]) -> Measured
+    ensures { λ r. ⌜ measuredIs r ≡ outcome.measure levelDefault (now (bytes .entry)) ⌝ }
+{
+    measure_within(limit::DEFAULT, bytes)
 }

@@ -16,6 +16,7 @@ use Rattle.standard.specs.Codes
 use Rattle.standard.specs.Kinds
 use Rattle.standard.specs.Table
 use Rattle.standard.specs.Encode
+use Rattle.standard.specs.Outcomes
 use Rattle.standard.specs.InCode.{layoutIs, entryIs, styleIs}
 use Rattle.standard.specs.declared.format_code.Layout.{Layout}
 use Rattle.standard.specs.declared.format_code.Layout.the-variants.{Unknown, Described, Constant, Whole, Small, Raw, Sized, Compound, Array}
@@ -30,6 +31,7 @@ use Rattle.standard.proofs.kind.«is_fair» as «is_fair»
 use Rattle.standard.proofs.kind.«fits_width» as «fits_width»
 use Rattle.standard.proofs.kind.«is_nameable» as «is_nameable»
 use Rattle.standard.proofs.kind.«fits_byte» as «fits_byte»
+use Rattle.standard.proofs.limit.«is_in_force» as «is_in_force»
 use Rattle.standard.proofs.kind.Style.«is_kind» as «is_kind»
 use Rattle.standard.proofs.kind.Style.«is_member» as «is_member»
 use Rattle.standard.proofs.kind.Style.letters as letters
@@ -140,3 +142,6 @@ module _ {M : Type 1} (𝓤 : URA M) (H : Heap 𝓤) (κs : Lfts 0) (A : Atoms �
 
   pub takes-promise : (s : Style) (k n : ℕ) (r : Bool) → takes.ensures-1 𝓤 H κs A mem run s k n (record { entry = s; exit = s }) (record { entry = k; exit = k }) (record { entry = n; exit = n }) r ≡ fact 𝓤 (r ≡ Table.ranged (styleIs s) k n)
   takes-promise s k n r = refl
+
+  pub limit-promise : (l : ℕ) (r : Bool) → «is_in_force».ensures-1 𝓤 H κs A mem run l (record { entry = l; exit = l }) r ≡ fact 𝓤 (r ≡ Outcomes.inForce l)
+  limit-promise l r = refl

@@ -67,3 +67,6 @@ rowsShort = 13
 
 abbrev pub textShort : ℕ
 textShort = 14
+
+abbrev pub limitOutside : ℕ
+limitOutside = 15

@@ -15,6 +15,16 @@ pub T-true : (b : Bool) → T b → b ≡ true
 T-true true t = refl
 T-true false t = absurd t
 
+pub T-false : (b : Bool) → T (not b) → b ≡ false
+T-false true t = absurd t
+T-false false t = refl
+
+pub true-T : (b : Bool) → b ≡ true → T b
+true-T b e = rw e tt
+
+pub false-T : (b : Bool) → b ≡ false → T (not b)
+false-T b e = rw e tt
+
 pub and-left : (a b : Bool) → T (a && b) → T a
 and-left true b t = tt
 and-left false b t = t

@@ -6,7 +6,7 @@ use lib.ListN.{length}
 use Rattle.standard.specs.Answer.{Answer, got, refuse, at}
 use Rattle.standard.specs.Choose.{if}
 use Rattle.standard.specs.Tree.{Tree, rows}
-use Rattle.standard.specs.Read.{front}
+use Rattle.standard.specs.Outcomes.{arrived}
 
 -- a number below 10 ^ digits in decimal, with no leading zero
 unfoldable pub decimalIn : (digits number : ℕ) → List ℕ
@@ -59,5 +59,5 @@ shown n (refuse x (at p)) = refusedWord ++ (space ∷ decimal x) ++ (space ∷ d
 abbrev pub inputMost : ℕ
 inputMost = 4096
 
-unfoldable pub listing : (levels : ℕ) → (input : List ℕ) → List ℕ
-listing l r = if (leb (length r) inputMost) (shown (length r) (front l r)) (largeWords ++ (newline ∷ []))
+unfoldable pub listing : (limit : ℕ) → (input : List ℕ) → List ℕ
+listing l r = if (leb (length r) inputMost) (shown (length r) (arrived l r)) (largeWords ++ (newline ∷ []))

@@ -82,9 +82,6 @@ pub const MOST: u64 = 0x10_0000;
 // The number of an array's row is its count, and its elements' kind times this.
 pub const KIND_UNIT: u64 = 0x1_0000_0000;
 
-// No value stands beyond this level.
-pub const LEVELS: usize = 32;
-
 // Is a boolean 0 or 1, and a char no surrogate and at most 0x10ffff. Every other number is fair.
 pub fn is_fair(kind: u64, number: u64) -> bool
     ensures { λ r. ⌜ r ≡ fair kind number ⌝ }

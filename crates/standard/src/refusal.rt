@@ -29,6 +29,9 @@ pub const ROWS_SHORT: usize = 13;
 
 pub const TEXT_SHORT: usize = 14;
 
+// The level limit is 0 or more than 32.
+pub const LIMIT_OUTSIDE: usize = 15;
+
 // Why something was refused, and where: at a row in writing, at an offset in reading.
 pub struct Refusal {
     pub number: usize,

@@ -4,6 +4,7 @@ ghost use Prim.Native.Nat.{_+_, _^_, _<_, _≤_};
 ghost use lib.ListN.{length};
 ghost use Rattle.io.specs.Counts.{Counts};
 
+mod call;
 mod form;
 mod reading;
 mod writing;
@@ -19,6 +20,7 @@ enum Entry {
     Write,
     Read,
     Walk,
+    Start,
 }
 
 // How many cases there were, and how many of their answers were right.
@@ -43,6 +45,7 @@ fn right_in(entry: Entry, line: &[u8]) -> u64
         Entry::Write => writing::write_case(line),
         Entry::Read => reading::read_case(line),
         Entry::Walk => reading::walk_case(line),
+        Entry::Start => reading::start_case(line),
     }
 }
 
@@ -53,6 +56,7 @@ fn answers_in(entry: Entry) -> u64 {
         Entry::Write => 2,
         Entry::Read => 2,
         Entry::Walk => 1,
+        Entry::Start => 1,
     }
 }
 
@@ -168,4 +172,5 @@ fn main() {
     replay(Entry::Read, b"read_room.txt");
     replay(Entry::Read, b"own_read.txt");
     replay(Entry::Walk, b"walk.txt");
+    replay(Entry::Start, b"own_walk.txt");
 }

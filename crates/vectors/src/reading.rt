@@ -1,12 +1,15 @@
-// Cases of the reader: bytes, and what is due of measuring, of reading and of the walker.
+// Cases of the reader: a level limit and bytes, and what is due of measuring, of reading and of the walker.
+// They are replayed in the same forms as those of the writer.
 ghost use Prim.Native.Nat.{_≤_};
 ghost use Rattle.io.specs.Counts.{Counts};
+use crate::call;
+use crate::call::Call;
 use crate::form;
 use crate::form::Answer;
 use crate::writing;
 use reader::Measured;
-use reader::walker;
 use reader::walker::Step;
+use standard::limit;
 use standard::refusal;
 
 // No case has more words.
@@ -88,7 +91,7 @@ fn is_due(given: Measured, due: Answer, want: Wanted) -> bool {
 
 // Whether measuring's answer goes with what is due of reading. It is the same; but where a room is too small, measuring succeeds.
 fn goes_with(given: Measured, due: Answer, want: Wanted) -> bool {
-    if due.number < refusal::ROWS_SHORT as u64 {
+    if due.number != refusal::ROWS_SHORT as u64 && due.number != refusal::TEXT_SHORT as u64 {
         return is_due(given, due, want);
     }
     match given {
@@ -97,8 +100,26 @@ fn goes_with(given: Measured, due: Answer, want: Wanted) -> bool {
     }
 }
 
-// How many answers are right: measuring's, and reading's, which has to leave words and text as they are wanted, to the last one.
+// Whether reading's answer is the one that is due, and leaves words and text as they are wanted, to the last one.
+fn reads(
+    call: Call,
+    bytes: &[u8],
+    words: &mut [u64],
+    text: &mut [u8],
+    want_words: &[u64],
+    want_text: &[u8],
+    due: Answer,
+    want: Wanted,
+) -> bool {
+    fresh(words);
+    writing::fresh(text);
+    let given = call::read(call, bytes, words, text);
+    is_due(given, due, want) && same(words, want_words) && check::same(text, want_text)
+}
+
+// How many answers are right: measuring's, and reading's.
 fn right_in_both(
+    limit: usize,
     bytes: &[u8],
     words: &mut [u64],
     text: &mut [u8],
@@ -109,81 +130,83 @@ fn right_in_both(
 ) -> u64
     ensures { λ r. ⌜ r ≤ 2 ⌝ }
 {
-    let measured = reader::measure(bytes);
-    let given = reader::read(bytes, words, text);
-    let is_stored = same(words, want_words) && check::same(text, want_text);
-    writing::one(goes_with(measured, due, want))
-        + writing::one(is_due(given, due, want) && is_stored)
+    let within = Call::Within(limit);
+    let measured = goes_with(call::measure(within, bytes), due, want);
+    let read = reads(within, bytes, words, text, want_words, want_text, due, want);
+    if limit != limit::DEFAULT {
+        return writing::one(measured) + writing::one(read);
+    }
+    let plain = Call::Plain;
+    let measured_too = goes_with(call::measure(plain, bytes), due, want);
+    let read_too = reads(plain, bytes, words, text, want_words, want_text, due, want);
+    writing::one(measured && measured_too) + writing::one(read && read_too)
 }
 
-// The same, with so many words and so much text to lend.
+// The same, where what is due stands at a place of the line. What is wanted has as much room as what is lent.
 fn right_lent(
+    line: &[u8],
+    at: usize,
+    limit: usize,
     bytes: &[u8],
-    rows: u64,
-    letters: u64,
-    want_words: &[u64],
-    want_text: &[u8],
-    due: Answer,
-    want: Wanted,
+    words: &mut [u64],
+    text: &mut [u8],
+    want_words: &mut [u64],
+    want_text: &mut [u8],
 ) -> u64
     ensures { λ r. ⌜ r ≤ 2 ⌝ }
 {
-    let mut words = [0u64; WORDS];
-    fresh(&mut words);
-    let n = part(rows, &words);
-    let mut text = io::buffer();
-    writing::fresh(&mut text);
-    let m = writing::part(letters, &text);
-    if n as u64 != rows || m as u64 != letters {
-        return 0;
-    }
-    right_in_both(
-        bytes,
-        &mut words[..n],
-        &mut text[..m],
-        want_words,
-        want_text,
-        due,
-        want,
-    )
-}
-
-// The same, where the rooms and what is due stand at a place of the line.
-fn right_read(line: &[u8], at: usize, bytes: &[u8]) -> u64
-    ensures { λ r. ⌜ r ≤ 2 ⌝ }
-{
-    let rows = form::number(line, at, 10);
-    let letters = form::number(line, form::after(line, rows.at, b' '), 10);
-    let due = form::answer_at(line, form::after(line, letters.at, b' '));
-    let mut words = [0u64; WORDS];
-    fresh(&mut words);
-    let mut text = io::buffer();
-    writing::fresh(&mut text);
-    let want = read_wanted(line, due, &mut words, &mut text);
+    fresh(want_words);
+    writing::fresh(want_text);
+    let due = form::answer_at(line, at);
+    let want = read_wanted(line, due, want_words, want_text);
     if want.at != line.len() {
         return 0;
     }
+    right_in_both(limit, bytes, words, text, want_words, want_text, due, want)
+}
+
+// The same, where the rooms stand at a place of the line.
+fn right_read(line: &[u8], at: usize, limit: usize, bytes: &[u8]) -> u64
+    ensures { λ r. ⌜ r ≤ 2 ⌝ }
+{
+    let mut words = [0u64; WORDS];
+    let mut want_words = [0u64; WORDS];
+    let mut text = io::buffer();
+    let mut want_text = io::buffer();
+    let rows = form::number(line, at, 10);
+    let letters = form::number(line, form::after(line, rows.at, b' '), 10);
     let n = part(rows.value, &words);
     let m = writing::part(letters.value, &text);
+    let k = writing::part(letters.value, &want_text);
+    if n as u64 != rows.value || m as u64 != letters.value {
+        return 0;
+    }
     right_lent(
+        line,
+        form::after(line, letters.at, b' '),
+        limit,
         bytes,
-        rows.value,
-        letters.value,
-        &words[..n],
-        &text[..m],
-        due,
-        want,
+        &mut words[..n],
+        &mut text[..m],
+        &mut want_words[..n],
+        &mut want_text[..k],
     )
 }
 
-// `BYTES ROOM ROOM ANSWER`, with `LENGTH WORDS TEXT` behind a success.
+// `LIMIT BYTES ROOM ROOM ANSWER`, with `LENGTH WORDS TEXT` behind a success.
 pub(crate) fn read_case(line: &[u8]) -> u64
     ensures { λ r. ⌜ r ≤ 2 ⌝ }
 {
+    let limit = form::number(line, 0, 10);
     let mut input = io::buffer();
-    let b = form::bytes(line, 0, &mut input);
+    let b = form::bytes(line, form::after(line, limit.at, b' '), &mut input);
     let n = b.count;
-    right_read(line, form::after(line, b.at, b' '), &input[..n])
+    right_read(
+        line,
+        form::after(line, b.at, b' '),
+        limit.value as usize,
+        &input[..n],
+    )
 }
 
 // Whether a step is the one that is due: done is a length of 0.
@@ -195,10 +218,10 @@ fn is_step(given: Step, due: Answer, at: usize, length: u64) -> bool {
     }
 }
 
-// Whether the steps that stand at a place of the line, to its end, are the walker's.
-fn walks(line: &[u8], from: usize, bytes: &[u8]) -> bool {
+// Whether the steps that stand at a place of the line, to its end, are the walker's from that start on.
+fn walks(call: Call, line: &[u8], from: usize, start: usize, bytes: &[u8]) -> bool {
     let mut i = from;
-    let mut at: usize = 0;
+    let mut at = start;
     while i < line.len() {
         let due = form::answer_at(line, form::after(line, i, b' '));
         let mut length = form::Found {
@@ -208,7 +231,7 @@ fn walks(line: &[u8], from: usize, bytes: &[u8]) -> bool {
         if due.number == 0 {
             length = form::number(line, due.at, 10);
         }
-        let stepped = walker::step_at(bytes, at);
+        let stepped = call::step(call, bytes, at);
         let answer = stepped.answer;
         if !is_step(answer, due, at, length.value) {
             return false;
@@ -222,12 +245,43 @@ fn walks(line: &[u8], from: usize, bytes: &[u8]) -> bool {
     i == line.len()
 }
 
-// `BYTES ANSWER ANSWER ..`, with the length of the value behind a success.
-pub(crate) fn walk_case(line: &[u8]) -> u64
+// How many answers are right: the walker's from that start on, all of them or none. Bytes and steps stand at a place of the line.
+fn right_walked(line: &[u8], at: usize, limit: usize, start: usize) -> u64
     ensures { λ r. ⌜ r ≤ 1 ⌝ }
 {
     let mut input = io::buffer();
-    let b = form::bytes(line, 0, &mut input);
+    let b = form::bytes(line, at, &mut input);
     let n = b.count;
-    writing::one(walks(line, b.at, &input[..n]))
+    let walked = walks(Call::Within(limit), line, b.at, start, &input[..n]);
+    if limit != limit::DEFAULT {
+        return writing::one(walked);
+    }
+    writing::one(walked && walks(Call::Plain, line, b.at, start, &input[..n]))
+}
+
+// `LIMIT BYTES ANSWER ANSWER ..`, with the length of the value behind a success: the steps from the front on.
+pub(crate) fn walk_case(line: &[u8]) -> u64
+    ensures { λ r. ⌜ r ≤ 1 ⌝ }
+{
+    let limit = form::number(line, 0, 10);
+    right_walked(
+        line,
+        form::after(line, limit.at, b' '),
+        limit.value as usize,
+        0,
+    )
+}
+
+// `LIMIT START BYTES ANSWER ANSWER ..`: the steps from START on.
+pub(crate) fn start_case(line: &[u8]) -> u64
+    ensures { λ r. ⌜ r ≤ 1 ⌝ }
+{
+    let limit = form::number(line, 0, 10);
+    let start = form::number(line, form::after(line, limit.at, b' '), 10);
+    right_walked(
+        line,
+        form::after(line, start.at, b' '),
+        limit.value as usize,
+        start.value as usize,
+    )
 }

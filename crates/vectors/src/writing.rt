@@ -1,29 +1,38 @@
-// Cases of sizing and writing: a table, and what is due of the writer.
+// Cases of sizing and writing: a level limit and a table, and what is due of the writer.
+//
+// Each is replayed in the form that names the limit. Where that is the one in force when none is named, it is replayed in the form that
+// names none too, and an answer is right only if it is so in both.
 ghost use Prim.Native.Nat.{_≤_};
 ghost use Rattle.io.specs.Counts.{Counts};
+use crate::call;
+use crate::call::Call;
 use crate::form;
 use crate::form::Answer;
 use crate::form::Found;
+use standard::limit;
 use standard::refusal;
 use writer::Written;
 
 // No case has more words.
 const WORDS: usize = 1024;
 
-// How much of the buffers a table fills, and the place behind it.
+// The level limit of a case, how much of the buffers its table fills, and the place behind it.
 struct Table {
+    limit: usize,
     words: usize,
     text: usize,
     at: usize,
 }
 
-// A table: its words, and its text.
+// The level limit, and a table: its words, and its text.
 fn read_table(line: &[u8], words: &mut [u64], text: &mut [u8]) -> Table
     ensures { λ r. ⌜ Counts (r .words) (now (words .exit)) × Counts (r .text) (now (text .exit)) ⌝ }
 {
-    let w = form::words(line, 0, words);
+    let limit = form::number(line, 0, 10);
+    let w = form::words(line, form::after(line, limit.at, b' '), words);
     let t = form::bytes(line, form::after(line, w.at, b' '), text);
     Table {
+        limit: limit.value as usize,
         words: w.count,
         text: t.count,
         at: form::after(line, t.at, b' '),
@@ -77,8 +86,17 @@ pub(crate) fn part(room: u64, buffer: &[u8]) -> usize
     room as usize
 }
 
+// Whether sizing's answer is the one that is due.
+fn is_sized(limit: usize, words: &[u64], text: &[u8], due: Answer, length: u64) -> bool {
+    let sized = is_due(call::size(Call::Within(limit), words, text), due, length);
+    if limit != limit::DEFAULT {
+        return sized;
+    }
+    sized && is_due(call::size(Call::Plain, words, text), due, length)
+}
+
 // How many answers are right: sizing's. What is due stands at a place of the line.
-fn right_sized(line: &[u8], at: usize, words: &[u64], text: &[u8]) -> u64
+fn right_sized(line: &[u8], at: usize, limit: usize, words: &[u64], text: &[u8]) -> u64
     ensures { λ r. ⌜ r ≤ 1 ⌝ }
 {
     let due = form::answer_at(line, at);
@@ -89,11 +107,27 @@ fn right_sized(line: &[u8], at: usize, words: &[u64], text: &[u8]) -> u64
     if due.number == 0 {
         size = form::number(line, due.at, 10);
     }
-    one(size.at == line.len() && is_due(writer::size(words, text), due, size.value))
+    one(size.at == line.len() && is_sized(limit, words, text, due, size.value))
 }
 
-// How many answers are right: sizing's, and writing's, which has to leave the output as it is wanted, to the last byte.
+// Whether writing's answer is the one that is due, and leaves the output as it is wanted, to the last byte.
+fn writes(
+    call: Call,
+    words: &[u64],
+    text: &[u8],
+    out: &mut [u8],
+    want: &[u8],
+    due: Answer,
+    length: u64,
+) -> bool {
+    fresh(out);
+    let given = call::write(call, words, text, out);
+    is_due(given, due, length) && check::same(out, want)
+}
+
+// How many answers are right: sizing's, and writing's.
 fn right_in_both(
+    limit: usize,
     words: &[u64],
     text: &[u8],
     out: &mut [u8],
@@ -103,42 +137,63 @@ fn right_in_both(
 ) -> u64
     ensures { λ r. ⌜ r ≤ 2 ⌝ }
 {
-    let size = writer::size(words, text);
-    let given = writer::write(words, text, out);
-    let is_written = is_due(given, due, length) && check::same(out, want);
-    one(goes_with(size, due, length, want.len())) + one(is_written)
+    let within = Call::Within(limit);
+    let sized = goes_with(call::size(within, words, text), due, length, want.len());
+    let written = writes(within, words, text, out, want, due, length);
+    if limit != limit::DEFAULT {
+        return one(sized) + one(written);
+    }
+    let plain = Call::Plain;
+    let sized_too = goes_with(call::size(plain, words, text), due, length, want.len());
+    let written_too = writes(plain, words, text, out, want, due, length);
+    one(sized && sized_too) + one(written && written_too)
 }
 
-// The same, where the length of the output and what is due stand at a place of the line.
-fn right_written(line: &[u8], at: usize, words: &[u64], text: &[u8]) -> u64
+// The same, where what is due stands at a place of the line. `want` is as long as the output.
+fn right_lent(
+    line: &[u8],
+    at: usize,
+    limit: usize,
+    words: &[u64],
+    text: &[u8],
+    out: &mut [u8],
+    want: &mut [u8],
+) -> u64
+    ensures { λ r. ⌜ r ≤ 2 ⌝ }
+{
+    fresh(want);
+    let due = form::answer_at(line, at);
+    let bytes = form::bytes(line, due.at, want);
+    if bytes.at != line.len() {
+        return 0;
+    }
+    right_in_both(limit, words, text, out, want, due, bytes.count as u64)
+}
+
+// The same, where the length of the output stands at a place of the line.
+fn right_written(line: &[u8], at: usize, limit: usize, words: &[u64], text: &[u8]) -> u64
     ensures { λ r. ⌜ r ≤ 2 ⌝ }
 {
     let mut out = io::buffer();
     let mut want = io::buffer();
-    fresh(&mut out);
-    fresh(&mut want);
     let asked = form::number(line, at, 10);
-    let due = form::answer_at(line, form::after(line, asked.at, b' '));
-    let bytes = form::bytes(line, due.at, &mut want);
     let room = part(asked.value, &out);
     let same = part(asked.value, &want);
-    if bytes.at != line.len() {
-        return 0;
-    }
     if room as u64 != asked.value {
         return 0;
     }
-    right_in_both(
+    right_lent(
+        line,
+        form::after(line, asked.at, b' '),
+        limit,
         words,
         text,
         &mut out[..room],
-        &want[..same],
-        due,
-        bytes.count as u64,
+        &mut want[..same],
     )
 }
 
-// `WORDS TEXT ANSWER`, with the size behind a success.
+// `LIMIT WORDS TEXT ANSWER`, with the size behind a success.
 pub(crate) fn size_case(line: &[u8]) -> u64
     ensures { λ r. ⌜ r ≤ 1 ⌝ }
 {
@@ -147,10 +202,10 @@ pub(crate) fn size_case(line: &[u8]) -> u64
     let t = read_table(line, &mut words, &mut text);
     let n = t.words;
     let m = t.text;
-    right_sized(line, t.at, &words[..n], &text[..m])
+    right_sized(line, t.at, t.limit, &words[..n], &text[..m])
 }
 
-// `WORDS TEXT ROOM ANSWER`, with the bytes behind a success.
+// `LIMIT WORDS TEXT ROOM ANSWER`, with the bytes behind a success.
 pub(crate) fn write_case(line: &[u8]) -> u64
     ensures { λ r. ⌜ r ≤ 2 ⌝ }
 {
@@ -159,5 +214,5 @@ pub(crate) fn write_case(line: &[u8]) -> u64
     let t = read_table(line, &mut words, &mut text);
     let n = t.words;
     let m = t.text;
-    right_written(line, t.at, &words[..n], &text[..m])
+    right_written(line, t.at, t.limit, &words[..n], &text[..m])
 }

@@ -2,15 +2,17 @@
 use Prim.Native.Nat.{ℕ, _+_, _*_, _-_, _/_, _%_, _≤_, _<_}
 use mathlib.Core.Path.{_≡_, refl, sym, ap, _∙_}
 use mathlib.Core.List.{List, [], _∷_, _++_, append-nil}
+use mathlib.Core.Bool.{true, false}
 use native.Mathlib.Omega.{arith}
 use borrow.Author.Tests.{le-leb, lt-leb, ne-eqb}
 use lib.ListN.{length, length-append}
 use lib.Seq.{sets}
-use Rattle.standard.specs.Answer.{Answer, got, refuse, Place, at, _>>=_, rowsAmiss, textAmiss, tooLong}
+use Rattle.standard.specs.Answer.{Answer, got, refuse, Place, at, _>>=_, rowsAmiss, textAmiss, tooLong, limitOutside}
 use Rattle.standard.specs.Tree.{Tree, Trees, none, more, rows, text, tall, tall*, text*}
 use Rattle.standard.specs.Table.{most, any, several, tree, spent, table}
 use Rattle.standard.specs.Encode.{encode, encode*}
-use Rattle.standard.specs.Outcomes.{bytesOf, size}
+use Rattle.standard.specs.Facts.{T-true}
+use Rattle.standard.specs.Outcomes.{inForce, bytesOf, size}
 use Rattle.laws.specs.Answers.{out}
 use Rattle.laws.specs.Bounds.{rows-length}
 use Rattle.laws.specs.Tables.{tree-sound}
@@ -18,7 +20,6 @@ use Rattle.standard.specs.declared.refusal.Refusal.{Refusal}
 use Rattle.writer.specs.Heads.{modeOf}
 use Rattle.writer.specs.Marks.{marks, marks*}
 use Rattle.writer.specs.Sizing.{totalFrom, Marked, valuesAt, begin}
-use Rattle.standard.specs.Outcomes.{levelMost}
 use Rattle.writer.specs.Tables.{Fitting}
 use Rattle.writer.specs.declared.sizing.Sized.the-variants.{Fits, Refused}
 use Rattle.writer.specs.declared.sizing.Extent.{Extent}
@@ -71,9 +72,14 @@ one l w x e f = go (tree l any 0 w x) refl
         let i : _≡_ {A = Answer (Trees × List ℕ × List ℕ)} (refuse z p) (got (f .trees, f .rest, f .tail)) = sym (one-value l w x ∙ rw h) ∙ f .isGot in
         let k : _≡_ {A = ℕ} 0 1 = cc in absurd (omega arith)
 
-pub odd-no : (l : ℕ) (w x : List ℕ) → length w % 2 ≡ 1 → size l w x ≡ refuse rowsAmiss (at 0)
+-- a limit that may not be named
+pub limit-no : (l : ℕ) (w x : List ℕ) → inForce l ≡ false → size l w x ≡ refuse limitOutside (at 0)
+unfolding size bytesOf
+limit-no l w x h = rw h
+
+pub odd-no : (l : ℕ) (w x : List ℕ) → inForce l ≡ true → length w % 2 ≡ 1 → size l w x ≡ refuse rowsAmiss (at 0)
 unfolding size bytesOf table
-odd-no l w x h = rw (ne-eqb (length w % 2) 0 (λ e. omega arith))
+odd-no l w x t h = rw (t, ne-eqb (length w % 2) 0 (λ e. omega arith))
 
 tree-no : (l : ℕ) (w x : List ℕ) (a : ℕ) (p : Place) → valuesAt w x l any 1 begin ≡ refuse a p → tree l any 0 w x ≡ refuse a p
 tree-no l w x a p e = go (tree l any 0 w x) refl
@@ -88,13 +94,13 @@ tree-no l w x a p e = go (tree l any 0 w x) refl
         let k : q ≡ p = cc in
         h ∙ rw (j, k)
 
-module _ (l : ℕ) (w x : List ℕ) (h : ¬ (length w % 2 ≡ 1)) where
+module _ (l : ℕ) (w x : List ℕ) (t : inForce l ≡ true) (h : ¬ (length w % 2 ≡ 1)) where
   even : length w % 2 ≡ 0
   even = omega arith
 
   pub value-no : (f : Refusal) → Refused f ≡ totalFrom any begin (valuesAt w x l any 1 begin) → size l w x ≡ refuse (f .number) (at (f .place))
   unfolding size bytesOf table
-  value-no f e = rw (even, tree-no l w x (f .number) (at (f .place)) (unfit any begin (valuesAt w x l any 1 begin) f e))
+  value-no f e = rw (t, even, tree-no l w x (f .number) (at (f .place)) (unfit any begin (valuesAt w x l any 1 begin) f e))
 
   module _ (e : Extent) (f : Fits e ≡ totalFrom any begin (valuesAt w x l any 1 begin)) where
     o : One l w x e
@@ -117,12 +123,12 @@ module _ (l : ℕ) (w x : List ℕ) (h : ¬ (length w % 2 ≡ 1)) where
     unfolding size bytesOf table
     rows-left z =
         let r : (length w - length (o .left)) / 2 ≡ e .row = omega (arith, lengths .0) in
-        rw (even, o .isTree, r, spent-some rowsAmiss (e .row) (o .left) (omega (arith, lengths .0)))
+        rw (t, even, o .isTree, r, spent-some rowsAmiss (e .row) (o .left) (omega (arith, lengths .0)))
 
     pub text-left : length w ≤ 2 * (e .row) → e .text < length x → size l w x ≡ refuse textAmiss (at (length w / 2))
     unfolding size bytesOf table
     text-left y z =
-        rw (even, o .isTree, spent-none rowsAmiss ((length w - length (o .left)) / 2) (o .left) (omega (arith, lengths .0)), spent-some textAmiss (length w / 2) (o .tail) (omega (arith, lengths .1)))
+        rw (t, even, o .isTree, spent-none rowsAmiss ((length w - length (o .left)) / 2) (o .left) (omega (arith, lengths .0)), spent-some textAmiss (length w / 2) (o .tail) (omega (arith, lengths .1)))
 
     module _ (y : length w ≤ 2 * (e .row)) (z : length x ≤ e .text) where
       whole : table l w x ≡ got (o .value)
@@ -132,7 +138,7 @@ module _ (l : ℕ) (w x : List ℕ) (h : ¬ (length w % 2 ≡ 1)) where
 
       pub too-long : most < e .size → size l w x ≡ refuse tooLong (at 0)
       unfolding size bytesOf
-      too-long a = rw (whole, lt-leb (length (encode (o .value))) most (rw (← o .size) a))
+      too-long a = rw (t, whole, lt-leb (length (encode (o .value))) most (rw (← o .size) a))
 
       -- the values of the table, as sizing names them
       whole-values : valuesAt w x l any 1 begin ≡ got (more (o .value) none, o .left, o .tail)
@@ -144,18 +150,19 @@ marked-one b a m v u y q e h r =
     let g : m + length (marks v ++ []) ≤ length b → a ≡ sets b m (marks v ++ []) = rw e at h in
     rw append-nil at (g (rw append-nil r))
 
--- a table that fits, at the level limit of the entry points
-pub fitting : (w x : List ℕ) → ¬ (length w % 2 ≡ 1) → (e : Extent) → Fits e ≡ totalFrom any begin (valuesAt w x levelMost any 1 begin) → length w ≤ 2 * (e .row) → length x ≤ e .text → e .size ≤ most → (b a : List ℕ)
-    → Marked b 0 a (valuesAt w x levelMost any 1 begin) → Fitting w x b a e
-fitting w x h e f y z s b a m =
-    let v = o levelMost w x h e f in
+-- a table that fits
+pub fitting : (l : ℕ) (w x : List ℕ) → inForce l ≡ true → ¬ (length w % 2 ≡ 1) → (e : Extent) → Fits e ≡ totalFrom any begin (valuesAt w x l any 1 begin) → length w ≤ 2 * (e .row) → length x ≤ e .text → e .size ≤ most → (b a : List ℕ)
+    → Marked b 0 a (valuesAt w x l any 1 begin) → Fitting l w x b a e
+fitting l w x t h e f y z s b a m =
+    let v = o l w x t h e f in
     record {
+      named = rw t tt;
       tree = v .value;
-      isTable = whole levelMost w x h e f y z;
+      isTable = whole l w x t h e f y z;
       size = v .size;
       small = s;
       mark = v .mark;
-      kept = λ r. marked-one b a 0 (v .value) (v .left) (v .tail) (valuesAt w x levelMost any 1 begin) (whole-values levelMost w x h e f y z) m (omega arith);
+      kept = λ r. marked-one b a 0 (v .value) (v .left) (v .tail) (valuesAt w x l any 1 begin) (whole-values l w x t h e f y z) m (omega arith);
     }
 
 pub row-inside : (l : ℕ) (w x : List ℕ) (e : Extent) → Fits e ≡ totalFrom any begin (valuesAt w x l any 1 begin) → 2 * (e .row) ≤ length w
@@ -163,10 +170,10 @@ row-inside l w x e f =
     let v = one l w x e (found any begin (valuesAt w x l any 1 begin) e f) in
     omega (arith, simp length-append at (ap length (v .rowsAre)), rows-length (v .value), v .row)
 
-pub fits-bytes : (w x b a : List ℕ) (e : Extent) (f : Fitting w x b a e) → bytesOf levelMost w x ≡ got (encode (f .tree))
+pub fits-bytes : (l : ℕ) (w x b a : List ℕ) (e : Extent) (f : Fitting l w x b a e) → bytesOf l w x ≡ got (encode (f .tree))
 unfolding bytesOf
-fits-bytes w x b a e f = rw (f .isTable, le-leb (length (encode (f .tree))) most (rw (← f .size) (f .small)))
+fits-bytes l w x b a e f = rw (T-true (inForce l) (f .named), f .isTable, le-leb (length (encode (f .tree))) most (rw (← f .size) (f .small)))
 
-pub fits-size : (w x b a : List ℕ) (e : Extent) → Fitting w x b a e → got (e .size) ≡ size levelMost w x
+pub fits-size : (l : ℕ) (w x b a : List ℕ) (e : Extent) → Fitting l w x b a e → got (e .size) ≡ size l w x
 unfolding size
-fits-size w x b a e f = rw (fits-bytes w x b a e f, f .size)
+fits-size l w x b a e f = rw (fits-bytes l w x b a e f, f .size)

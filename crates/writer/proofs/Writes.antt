@@ -11,6 +11,7 @@ use Rattle.standard.specs.Tree.{Tree}
 use Rattle.standard.specs.Table.{any, tree, table}
 use Rattle.standard.specs.Encode.{encode}
 use Rattle.standard.specs.Outcomes.{bytesOf, size, writtenTo, write}
+use Rattle.laws.specs.Levels.{limit-most, table-more}
 use Rattle.laws.specs.Tables.{table-holds}
 use Rattle.laws.specs.Stores.{front-over, drop-take}
 use Rattle.writer.specs.Heads.{modeOf}
@@ -75,15 +76,19 @@ module _ (w x near : List ℕ) (n m : ℕ) (d : List ℕ) (g : Writable w x near
     all-bytes d₂ f = f (g .tree) fillable ∙ rw (e, g .isTable) (covered d (n - m) (marks (g .tree)) (encode (g .tree)) (omega (arith, g .mark, g .size)) (omega (arith, g .size, g .room)))
 
 -- A table that fits can be written
-pub marks-inside : (w x b a : List ℕ) (e : Extent) → Fitting w x b a e → e .mark ≤ e .size
-unfolding modeOf
-marks-inside w x b a e f = omega (arith, marks-fit (f .tree) levelMost any tt (table-holds levelMost w x (f .tree) (f .isTable) .2), f .size, f .mark)
+-- at the highest limit it is the same
+fits-most : (l : ℕ) (w x b a : List ℕ) (e : Extent) (f : Fitting l w x b a e) → table levelMost w x ≡ got (f .tree)
+fits-most l w x b a e f = table-more l levelMost w x (f .tree) (limit-most l (f .named)) (f .isTable)
 
-pub writable : (w x b a : List ℕ) (e : Extent) → Fitting w x b a e → length a ≡ length b → (d : List ℕ) → e .size ≤ length d → Writable w x a (e .size) (e .mark) d
-writable w x b a e f z d h =
+pub marks-inside : (l : ℕ) (w x b a : List ℕ) (e : Extent) → Fitting l w x b a e → e .mark ≤ e .size
+unfolding modeOf
+marks-inside l w x b a e f = omega (arith, marks-fit (f .tree) l any tt (table-holds l w x (f .tree) (f .isTable) .2), f .size, f .mark)
+
+pub writable : (l : ℕ) (w x b a : List ℕ) (e : Extent) → Fitting l w x b a e → length a ≡ length b → (d : List ℕ) → e .size ≤ length d → Writable w x a (e .size) (e .mark) d
+writable l w x b a e f z d h =
     record {
       tree = f .tree;
-      isTable = f .isTable;
+      isTable = fits-most l w x b a e f;
       size = f .size;
       small = f .small;
       mark = f .mark;
@@ -97,20 +102,20 @@ size-bytes : (a : Answer (List ℕ)) (x : ℕ) (p : Place) → _>>=_ a (λ bs. g
 size-bytes (got b) x p e = let z : _≡_ {A = ℕ} 0 1 = cc in absurd (omega arith)
 size-bytes (refuse y q) x p e = let i : y ≡ x = cc in let j : q ≡ p = cc in rw (i, j)
 
-pub write-no : (w x d : List ℕ) (a : ℕ) (p : Place) → size levelMost w x ≡ refuse a p → write levelMost w x d ≡ record { answer = refuse a p; out = d }
+pub write-no : (l : ℕ) (w x d : List ℕ) (a : ℕ) (p : Place) → size l w x ≡ refuse a p → write l w x d ≡ record { answer = refuse a p; out = d }
 unfolding size write writtenTo
-write-no w x d a p e = rw (size-bytes (bytesOf levelMost w x) a p e)
+write-no l w x d a p e = rw (size-bytes (bytesOf l w x) a p e)
 
-pub write-short : (w x b a d : List ℕ) (e : Extent) → Fitting w x b a e → length d < e .size → write levelMost w x d ≡ record { answer = refuse outputShort (at 0); out = d }
+pub write-short : (l : ℕ) (w x b a d : List ℕ) (e : Extent) → Fitting l w x b a e → length d < e .size → write l w x d ≡ record { answer = refuse outputShort (at 0); out = d }
 unfolding write writtenTo
-write-short w x b a d e f h = rw (fits-bytes w x b a e f, lt-leb (length (encode (f .tree))) (length d) (rw (← f .size) h))
+write-short l w x b a d e f h = rw (fits-bytes l w x b a e f, lt-leb (length (encode (f .tree))) (length d) (rw (← f .size) h))
 
-pub write-good : (w x b a d : List ℕ) (e : Extent) → Fitting w x b a e → e .size ≤ length d → write levelMost w x d ≡ record { answer = got (e .size); out = sets d 0 (bytesIn (table levelMost w x)) }
+pub write-good : (l : ℕ) (w x b a d : List ℕ) (e : Extent) → Fitting l w x b a e → e .size ≤ length d → write l w x d ≡ record { answer = got (e .size); out = sets d 0 (bytesIn (table levelMost w x)) }
 unfolding write writtenTo
-write-good w x b a d e f h =
+write-good l w x b a d e f h =
     let i : length (encode (f .tree)) ≤ length d = rw (← f .size) h in
-    rw (fits-bytes w x b a e f, le-leb (length (encode (f .tree))) (length d) i, f .isTable, front-over d (encode (f .tree)) i, f .size)
+    rw (fits-bytes l w x b a e f, le-leb (length (encode (f .tree))) (length d) i, fits-most l w x b a e f, front-over d (encode (f .tree)) i, f .size)
 
 -- an outcome, part by part
-pub parts : (w x d : List ℕ) (a : Answer ℕ) (o : List ℕ) → write levelMost w x d ≡ record { answer = a; out = o } → (a ≡ write levelMost w x d .answer) × (o ≡ write levelMost w x d .out)
-parts w x d a o e = (sym (ap (λ z. z .answer) e), sym (ap (λ z. z .out) e))
+pub parts : (l : ℕ) (w x d : List ℕ) (a : Answer ℕ) (o : List ℕ) → write l w x d ≡ record { answer = a; out = o } → (a ≡ write l w x d .answer) × (o ≡ write l w x d .out)
+parts l w x d a o e = (sym (ap (λ z. z .answer) e), sym (ap (λ z. z .out) e))

@@ -7,7 +7,7 @@
 // overwritten before its turn. A table with more compounds is gone over once more, without checks, to put its marks there.
 ghost use mathlib.Core.Path.{_≡_};
 ghost use Rattle.standard.specs.Outcomes as outcome;
-ghost use Rattle.standard.specs.Outcomes.{levelMost};
+ghost use Rattle.standard.specs.Outcomes.{levelMost, levelDefault};
 ghost use Prim.Native.Nat.{_-_, _≤_};
 ghost use lib.Seq.{sets};
 ghost use Rattle.standard.specs.Table.{table};
@@ -25,6 +25,7 @@ mod sizing;
 use sizing::Extent;
 use sizing::Sized;
 use standard::kind;
+use standard::limit;
 use standard::refusal;
 use standard::refusal::Refusal;
 
@@ -43,15 +44,18 @@ fn refuse(number: usize, place: usize) -> Sized
     Sized::Refused(Refusal { number, place })
 }
 
-// Sizes a whole table, and leaves its marks where there is room for them.
-fn size_table(words: &[u64], text: &[u8], marks: &mut [u8]) -> Sized
-    ensures { λ r. ⌜ TableSized (now (words .entry)) (now (text .entry)) (now (marks .entry)) (now (marks .exit)) r ⌝ }
+// Sizes a whole table within a level limit, and leaves its marks where there is room for them.
+fn size_table(limit: usize, words: &[u64], text: &[u8], marks: &mut [u8]) -> Sized
+    ensures { λ r. ⌜ TableSized limit (now (words .entry)) (now (text .entry)) (now (marks .entry)) (now (marks .exit)) r ⌝ }
 {
+    if !limit::is_in_force(limit) {
+        return refuse(refusal::LIMIT_OUTSIDE, 0);
+    }
     let n = words.len();
     if n % 2 == 1 {
         return refuse(refusal::ROWS_AMISS, 0);
     }
-    let all = sizing::size_values(words, text, 1, kind::LEVELS, marks, Extent::new());
+    let all = sizing::size_values(words, text, 1, limit, marks, Extent::new());
     let Sized::Fits(e) = all else {
         return all;
     };
@@ -67,15 +71,22 @@ fn size_table(words: &[u64], text: &[u8], marks: &mut [u8]) -> Sized
     all
 }
 
-// The length of what would be written.
-pub fn size(words: &[u64], text: &[u8]) -> Written
-    ensures { λ r. ⌜ writtenIs r ≡ outcome.size levelMost (now (words .entry)) (now (text .entry)) ⌝ }
+// The length of what would be written within a level limit.
+pub fn size_within(limit: usize, words: &[u64], text: &[u8]) -> Written
+    ensures { λ r. ⌜ writtenIs r ≡ outcome.size limit (now (words .entry)) (now (text .entry)) ⌝ }
 {
     let mut marks = [0u8; 0];
-    match size_table(words, text, &mut marks) {
+    match size_table(limit, words, text, &mut marks) {
         Sized::Refused(r) => Written::Refused(r),
         Sized::Fits(e) => Written::Length(e.size),
     }
+}
+
+// The length of what would be written, within 16 levels.
+pub fn size(words: &[u64], text: &[u8]) -> Written
+    ensures { λ r. ⌜ writtenIs r ≡ outcome.size levelDefault (now (words .entry)) (now (text .entry)) ⌝ }
+{
+    size_within(limit::DEFAULT, words, text)
 }
 
 // Puts the marks of a table to the end of its n bytes: from memory where they are near, or by going over its rows.
@@ -100,13 +111,13 @@ fn write_table(words: &[u64], text: &[u8], near: &[u8], n: usize, m: usize, out:
     filling::fill(words, text, out, n, n - m);
 }
 
-// Writes a table to the front of the output, or refuses and leaves the output as it is.
-pub fn write(words: &[u64], text: &[u8], out: &mut [u8]) -> Written
-    ensures { λ r. ⌜ (writtenIs r ≡ outcome.write levelMost (now (words .entry)) (now (text .entry)) (now (out .entry)) .answer)
-        × (now (out .exit) ≡ outcome.write levelMost (now (words .entry)) (now (text .entry)) (now (out .entry)) .out) ⌝ }
+// Writes a table to the front of the output within a level limit, or refuses and leaves the output as it is.
+pub fn write_within(limit: usize, words: &[u64], text: &[u8], out: &mut [u8]) -> Written
+    ensures { λ r. ⌜ (writtenIs r ≡ outcome.write limit (now (words .entry)) (now (text .entry)) (now (out .entry)) .answer)
+        × (now (out .exit) ≡ outcome.write limit (now (words .entry)) (now (text .entry)) (now (out .entry)) .out) ⌝ }
 {
     let mut near = [0u8; NEAR];
-    match size_table(words, text, &mut near) {
+    match size_table(limit, words, text, &mut near) {
         Sized::Refused(r) => Written::Refused(r),
         Sized::Fits(e) => {
             if out.len() < e.size {
@@ -119,4 +130,12 @@ pub fn write(words: &[u64], text: &[u8], out: &mut [u8]) -> Written
             Written::Length(e.size)
         }
     }
+}
+
+// Writes a table to the front of the output within 16 levels, or refuses and leaves the output as it is.
+pub fn write(words: &[u64], text: &[u8], out: &mut [u8]) -> Written
+    ensures { λ r. ⌜ (writtenIs r ≡ outcome.write levelDefault (now (words .entry)) (now (text .entry)) (now (out .entry)) .answer)
+        × (now (out .exit) ≡ outcome.write levelDefault (now (words .entry)) (now (text .entry)) (now (out .entry)) .out) ⌝ }
+{
+    write_within(limit::DEFAULT, words, text, out)
 }

@@ -5,16 +5,4 @@ use Rattle.export.proofs.afsungar_step.Statement.{statement}
 use Rattle.export.proofs.afsungar_step.Tie as tie
 
 pub afsungar-step-spec : {M : Type 1} → statement M
-afsungar-step-spec =
-    tie.close
-    (tie.spec
-    (λ c κs. search needs)
-    (λ c. search needs)
-    (λ c κs. search needs)
-    (λ c. search needs)
-    (λ c κs. search needs)
-    (λ c. search needs)
-    (λ c κs. search needs)
-    (λ c. step-told _ _ _ _ (c .before .before .before .before .before .step-at .ensures) (c .before .before .before .enum-told .given .1) (c .tell-length .ensures))
-    (λ c. step-told _ _ _ _ (c .before .before .before .before .before .before .step-at .ensures) (c .before .before .before .before .answer .given .1) (c .tell-length2 .ensures))
-    (λ c. step-told _ _ _ _ (c .before .before .before .before .before .before .step-at .ensures) (c .before .before .before .before .answer2 .given .1) (c .tell-length3 .ensures)))
+afsungar-step-spec = tie.close (tie.spec (λ c κs. search needs) (λ c κs. search needs) (λ c. step-told _ _ _ (c .before .before .before .before .step-at .ensures) (c .tell-step .ensures)))

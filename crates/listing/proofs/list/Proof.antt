@@ -18,18 +18,18 @@ fits : (c : tie.Start) → length (listing levelMost (c .args .bytes .now)) ≤ 
 fits c = omega (arith, c .pre .outRoom, listing-short levelMost (c .args .bytes .now))
 
 -- what is known of a value that was read
-found : (c : tie.After-e) → Listed levelMost (c .before .before .before .before .before .before .before .before .before .before .before .before .before .before .args .bytes .now) (c .before .before .before .before .before .before .read .last .1 .0) (c .e .given .0 .0 .length) (c .e .given .0 .0 .rows)
+found : (c : tie.After-e) → Listed levelMost (c .before .before .before .before .before .before .before .before .before .before .before .before .before .before .args .bytes .now) (c .before .before .before .before .before .before .read-within .last .1 .1 .0) (c .e .given .0 .0 .length) (c .e .given .0 .0 .rows)
 found c =
     let r = c .before .before .before .before .before .before in
     let s = r .before .before .before .before .before .before .before .before in
-    listed levelMost (s .args .bytes .now) (omega (arith, r .before .before .before .if1 .left)) (s .pre) _ _ (rw (c .e .given .1) at (r .read .ensures .0)) (r .read .ensures .1)
+    listed levelMost (s .args .bytes .now) (omega (arith, r .before .before .before .if1 .left)) (s .pre) _ _ (rw (c .e .given .1) at (r .read-within .ensures .0)) (r .read-within .ensures .1)
 
 -- and of an input that was refused
 declined : (c : tie.After-f) → listing levelMost (c .before .before .before .before .before .before .before .before .before .before .before .before .before .before .args .bytes .now) ≡ refusedLine (c .f .given .0 .0 .number) (c .f .given .0 .0 .place)
 declined c =
     let r = c .before .before .before .before .before .before in
     let s = r .before .before .before .before .before .before .before .before in
-    refused levelMost (s .args .bytes .now) (omega (arith, r .before .before .before .if1 .left)) (s .pre) _ _ (rw (c .f .given .1) at (r .read .ensures .0))
+    refused levelMost (s .args .bytes .now) (omega (arith, r .before .before .before .if1 .left)) (s .pre) _ _ (rw (c .f .given .1) at (r .read-within .ensures .0))
 
 pub list-spec : {M : Type 1} → statement M
 list-spec =
@@ -42,8 +42,8 @@ list-spec =
     (λ c κs. search needs)
     (λ c. search needs)
     (λ c. omega (arith, found (c .before .before) .few))
-    (λ c. omega (arith, found (c .before .before .before) .few, c .before .before .before .before .before .before .before .before .before .before .before .before .before .before .before .before .before .pre .rowRoom, c .before .before .before .before .before .before .before .before .before .read .kept .1 .0))
-    (λ c. sym (length-take-le _ _ (omega (arith, found (c .before .before .before .before) .few, c .before .before .before .before .before .before .before .before .before .before .before .before .before .before .before .before .before .before .pre .rowRoom, c .before .before .before .before .before .before .before .before .before .before .read .kept .1 .0))))
+    (λ c. omega (arith, found (c .before .before .before) .few, c .before .before .before .before .before .before .before .before .before .before .before .before .before .before .before .before .before .pre .rowRoom, c .before .before .before .before .before .before .before .before .before .read-within .kept .1 .1 .0))
+    (λ c. sym (length-take-le _ _ (omega (arith, found (c .before .before .before .before) .few, c .before .before .before .before .before .before .before .before .before .before .before .before .before .before .before .before .before .before .pre .rowRoom, c .before .before .before .before .before .before .before .before .before .before .read-within .kept .1 .1 .0))))
     (λ c κs. (found (c .before .before .before .before) .narrow, omega (arith, c .before .before .before .before .before .before .before .before .before .before .before .before .before .before .before .before .before .before .pre .outRoom, found (c .before .before .before .before) .short)))
     (λ c κs. omega (arith, c .before .before .before .before .before .before .before .before .before .before .before .before .before .before .before .before .before .before .before .before .before .before .pre .outRoom, found (c .before .before .before .before .before .before .before .before) .short, c .before .before .before .put-lines .kept .0, c .before .before .before .put-lines .ensures .end))
     (λ c. search needs)

@@ -1,17 +1,7 @@
--- `size` hands on what sizing found.
+-- `size` is sizing at the limit where none is named.
 use borrow.Author.Needs.{needs}
-use mathlib.Core.Path.{sym}
-use Rattle.writer.proofs.Whole.{fits-size}
 use Rattle.writer.proofs.size.Statement.{statement}
 use Rattle.writer.proofs.size.Tie as tie
 
 pub size-spec : {M : Type 1} → statement M
-size-spec =
-    tie.close
-    (tie.spec
-    (λ c. search needs)
-    (λ c κs. search needs)
-    (λ c. search needs)
-    (λ c. search needs)
-    (λ c. sym (rw (c .before .r .given .1) at (c .before .before .before .before .size-table .ensures)))
-    (λ c. fits-size _ _ _ _ _ (rw (c .before .e .given .1) at (c .before .before .before .before .size-table .ensures))))
+size-spec = tie.close (tie.spec (λ c κs. search needs) (λ c. c .size-within .ensures))

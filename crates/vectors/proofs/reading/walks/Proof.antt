@@ -7,10 +7,10 @@ use Rattle.vectors.proofs.reading.walks.Statement.{statement}
 use Rattle.vectors.proofs.reading.walks.Tie as tie
 
 abbrev Inv-loop : tie.InvT-loop
-Inv-loop line from bytes i₀ at₀ i at = Unit {0}
+Inv-loop call line from start bytes i₀ at₀ i at = Unit {0}
 
 abbrev μ-loop : tie.MeasureT-loop
-μ-loop line from bytes i₀ at₀ i at = length line - i
+μ-loop call line from start bytes i₀ at₀ i at = length line - i
 
 pub walks-spec : {M : Type 1} → statement M
 walks-spec =

@@ -1,4 +1,4 @@
--- `Walker::next`: the borrow of the walker is opened, `step_at` and `value_of` are called on what it holds, its place is set, and the borrow is closed.
+-- `Walker::next`: the borrow of the walker is opened, `step_within` and `value_of` are called on what it holds, its place is set, and the borrow is closed.
 -- What a walker owns, and what an answer owns, can be had twice: each callee is passed a copy.
 use mathlib.Core.Path.{_≡_, refl, ap}
 use Prim.Native.Nat.{ℕ, _<_, _^_}
@@ -59,10 +59,10 @@ use Rattle.reader.proofs.walker.Stepped as N
 use Rattle.reader.proofs.walker.Stepped.Laws as N′
 use Rattle.reader.proofs.walker.Next as S
 use Rattle.reader.proofs.walker.Next.Laws as S′
-use Rattle.reader.proofs.walker.step_at as step-at
-use Rattle.reader.proofs.walker.step_at.Symbol as step-at-def
-use Rattle.reader.proofs.walker.step_at.Symbol.{name as #step-at}
-use Rattle.reader.proofs.walker.step_at.Met as step-at-thm
+use Rattle.reader.proofs.walker.step_within as step-within
+use Rattle.reader.proofs.walker.step_within.Symbol as step-within-def
+use Rattle.reader.proofs.walker.step_within.Symbol.{name as #step-within}
+use Rattle.reader.proofs.walker.step_within.Met as step-within-thm
 use Rattle.reader.proofs.walker.value_of as value-of
 use Rattle.reader.proofs.walker.value_of.Symbol as value-of-def
 use Rattle.reader.proofs.walker.value_of.Symbol.{name as #value-of}
@@ -88,8 +88,8 @@ stayed = (stay-ref (0 ∷ []) tt behind, tt)
 
 module _ {M : Type 1} (𝓤 : URA M) (H : Heap 𝓤) (A : Atoms 𝓤) (mem : Memory → SProp 𝓤) (run : Routine → Fun 𝓤) where
   -- all that is known of the two callees
-  abbrev StepAt : Contract 𝓤
-  StepAt = tripleOf 𝓤 H A step-at.signature (step-at.spec 𝓤 H A mem run)
+  abbrev StepWithin : Contract 𝓤
+  StepWithin = tripleOf 𝓤 H A step-within.signature (step-within.spec 𝓤 H A mem run)
 
   abbrev ValueOf : Contract 𝓤
   ValueOf = tripleOf 𝓤 H A value-of.signature (value-of.spec 𝓤 H A mem run)
@@ -109,7 +109,7 @@ module _ {M : Type 1} (𝓤 : URA M) (H : Heap 𝓤) (A : Atoms 𝓤) (W : Given
   L = T′.the-laws (α κ′)
 
   abbrev vd : Values (D .parts)
-  vd = (d .bytes, (d .at, tt))
+  vd = (d .bytes, (d .at, (d .limit, tt)))
 
   -- the machine values: of the walker, a slice, a step, its answer and the result
   abbrev mach : Val
@@ -129,7 +129,7 @@ module _ {M : Type 1} (𝓤 : URA M) (H : Heap 𝓤) (A : Atoms 𝓤) (W : Given
 
   -- the walker afterwards, and the result
   abbrev d′ : Stepped → Walker
-  d′ r = record { bytes = d .bytes; at = r .at }
+  d′ r = record { bytes = d .bytes; at = r .at; limit = d .limit }
 
   abbrev made : Stepped → RefT (List ℕ) → Next
   made r p = record { answer = r .answer; value = p }
@@ -154,11 +154,11 @@ module _ {M : Type 1} (𝓤 : URA M) (H : Heap 𝓤) (A : Atoms 𝓤) (W : Given
   Post = walkOf 𝓤 H A next.ended stayed (next.clauses 𝓤 H A at-mem run) .post (((κ, (κ′, tt)), (q, (q′, tt)), bounds, x, at), tt)
 
   -- what the callees are passed
-  abbrev passed : Vals step-at.signature (κ′, tt)
-  passed = (val (d .bytes) ∷ [], (vint w64 (d .at) ∷ [], tt))
+  abbrev passed : Vals step-within.signature (κ′, tt)
+  passed = (vint w64 (d .limit) ∷ [], (val (d .bytes) ∷ [], (vint w64 (d .at) ∷ [], tt)))
 
-  abbrev to : StepAt 𝓤 H A at-mem run .Ghost
-  to = (((κ′, tt), (q′, tt), tt, (d .bytes, (d .at, tt)), passed), tt)
+  abbrev to : StepWithin 𝓤 H A at-mem run .Ghost
+  to = (((κ′, tt), (q′, tt), tt, (d .limit, (d .bytes, (d .at, tt))), passed), tt)
 
   abbrev passed₂ : Stepped → Vals value-of.signature (κ′, tt)
   passed₂ r = (val (d .bytes) ∷ [], (machA r ∷ [], tt))
@@ -173,13 +173,13 @@ module _ {M : Type 1} (𝓤 : URA M) (H : Heap 𝓤) (A : Atoms 𝓤) (W : Given
       use1 W (given (mach ∷ [] ≡ mach ∷ []) (‵ (all-own (D .parts) L vd))) (own-open 𝓤 H A W D L vd mach) $ learn ! (λ _.
       use1 W (‵ (ownAt (D .parts) L 0 (d .bytes)) ⊛ ‵ (rest (D .parts) L 0 vd)) (own-out 𝓤 H A W (D .parts) L 0 vd) $ split ! $ move ! (1 ∷ []) $ drop ! $ frame ! $ done !)
 
-  apart : d .at < 2 ^ 64 → ent 𝓤 (⋆ 𝓤 H A (‵ Own ∷ (‵ (flft κ′ q′) ⊛ ‵ ftrue) ∷ [])) (sep 𝓤 (StepAt 𝓤 H A at-mem run .pre to) (sem 𝓤 H A Own))
-  apart fits =
+  apart : d .at < 2 ^ 64 → d .limit < 2 ^ 64 → ent 𝓤 (⋆ 𝓤 H A (‵ Own ∷ (‵ (flft κ′ q′) ⊛ ‵ ftrue) ∷ [])) (sep 𝓤 (StepWithin 𝓤 H A at-mem run .pre to) (sem 𝓤 H A Own))
+  apart fits few =
       qed W (‵ Own ∷ (‵ (flft κ′ q′) ⊛ ‵ ftrue) ∷ []) ∵ use1 W (‵ (OwnP (d .bytes) (val (d .bytes))) ⊛ ‵ Own) opened $ split ! $
       -- [what the slice owns; what the walker owns; the token]
-      nothing ! $ owned ! usize (Is usize) (uint-makes 𝓤 H A W w64) (d .at) _ (refl, fits) $ fjoin ! $ move ! (1 ∷ 0 ∷ []) $ fjoin ! $
-      move ! (2 ∷ 0 ∷ []) $ use2 W (raw (StepAt 𝓤 H A at-mem run .pre to))
-      (qed W ((‵ (flft κ′ q′) ⊛ ‵ ftrue) ∷ ‵ (owns (ShrSlice (named 0) κ′ u8 ∷ usize ∷ []) (d .bytes, (d .at, tt)) passed) ∷ []) ∵ join ! $ frame ! $ done !) $ frame ! $ done !
+      nothing ! $ owned ! usize (Is usize) (uint-makes 𝓤 H A W w64) (d .at) _ (refl, fits) $ fjoin ! $ move ! (1 ∷ 0 ∷ []) $ fjoin ! $ owned ! usize (Is usize) (uint-makes 𝓤 H A W w64) (d .limit) _ (refl, few) $ fjoin ! $
+      move ! (2 ∷ 0 ∷ []) $ use2 W (raw (StepWithin 𝓤 H A at-mem run .pre to))
+      (qed W ((‵ (flft κ′ q′) ⊛ ‵ ftrue) ∷ ‵ (owns (usize ∷ ShrSlice (named 0) κ′ u8 ∷ usize ∷ []) (d .limit, (d .bytes, (d .at, tt))) passed) ∷ []) ∵ join ! $ frame ! $ done !) $ frame ! $ done !
 
   apart₂ : (r : Stepped) → Inside (length (now (d .bytes))) (stepIs (r .answer)) → ent 𝓤 (⋆ 𝓤 H A (‵ Own ∷ (‵ (flft κ′ q′) ⊛ ‵ ftrue) ∷ ‵ (OwnA r) ∷ [])) (sep 𝓤 (ValueOf 𝓤 H A at-mem run .pre (to₂ r)) (sep 𝓤 (sem 𝓤 H A Own) (sem 𝓤 H A (OwnA r))))
   apart₂ r within =
@@ -190,8 +190,8 @@ module _ {M : Type 1} (𝓤 : URA M) (H : Heap 𝓤) (A : Atoms 𝓤) (W : Given
       move ! (3 ∷ 0 ∷ []) $ use2 W (raw (ValueOf 𝓤 H A at-mem run .pre (to₂ r)))
       (qed W ((‵ (flft κ′ q′) ⊛ ‵ ftrue) ∷ ‵ (owns (ShrSlice (named 0) κ′ u8 ∷ E.the-row ∷ []) (d .bytes, (r .answer, tt)) (passed₂ r)) ∷ []) ∵ says ! within $ frame ! $ done !) $ frame ! $ move ! (1 ∷ 0 ∷ []) $ done !
 
-  said : (r : Stepped) → ent 𝓤 (ensured 𝓤 H A step-at.ended (step-at.clauses 𝓤 H A at-mem run) (κ′, tt) (d .bytes, (d .at, tt)) tt r) (fact 𝓤 (steppedIs r ≡ stepOf d))
-  said r = exE 𝓤 _ (λ ws. snd∗ 𝓤 (sem 𝓤 H A (lasts step-at.ended (κ′, tt) (d .bytes, (d .at, tt)) ws)) (fact 𝓤 (steppedIs r ≡ stepOf d)))
+  said : (r : Stepped) → ent 𝓤 (ensured 𝓤 H A step-within.ended (step-within.clauses 𝓤 H A at-mem run) (κ′, tt) (d .limit, (d .bytes, (d .at, tt))) tt r) (fact 𝓤 (steppedIs r ≡ stepOf d))
+  said r = exE 𝓤 _ (λ ws. snd∗ 𝓤 (sem 𝓤 H A (lasts step-within.ended (κ′, tt) (d .limit, (d .bytes, (d .at, tt))) ws)) (fact 𝓤 (steppedIs r ≡ stepOf d)))
 
   said₂ : (r : Stepped) (p : RefT (List ℕ)) → ent 𝓤 (ensured 𝓤 H A value-of.ended (value-of.clauses 𝓤 H A at-mem run) (κ′, tt) (d .bytes, (r .answer, tt)) tt p) (fact 𝓤 (Part (d .bytes) (stepIs (r .answer)) p))
   said₂ r p = exE 𝓤 _ (λ ws. snd∗ 𝓤 (sem 𝓤 H A (lasts value-of.ended (κ′, tt) (d .bytes, (r .answer, tt)) ws)) (fact 𝓤 (Part (d .bytes) (stepIs (r .answer)) p)))
@@ -219,60 +219,61 @@ module _ {M : Type 1} (𝓤 : URA M) (H : Heap 𝓤) (A : Atoms 𝓤) (W : Given
       suffices ! _ (ends-at 𝓤 H A next.ended stayed (next.clauses 𝓤 H A at-mem run) W (((κ, (κ′, tt)), (q, (q′, tt)), bounds, x, at), tt) (machS r p) (made r p) (d′ r, tt) (tt, tt)) $ says ! e $
       move ! (2 ∷ 4 ∷ []) $ join ! $ frame ! $ feqI ! (List Val) (vptr b o ∷ []) (vptr b o ∷ []) refl $ fjoin3 ! $ nothing ! $ move ! (1 ∷ 0 ∷ []) $ fjoin ! $ done !
 
-  module _ (C : Calls 𝓤 H) (Λ : Loops 𝓤 H) (fm : FmC 𝓤 H (W .laws) C) (known : Triple 𝓤 (C #step-at) (StepAt 𝓤 H A at-mem run)) (known₂ : Triple 𝓤 (C #value-of) (ValueOf 𝓤 H A at-mem run)) where
+  module _ (C : Calls 𝓤 H) (Λ : Loops 𝓤 H) (fm : FmC 𝓤 H (W .laws) C) (known : Triple 𝓤 (C #step-within) (StepWithin 𝓤 H A at-mem run)) (known₂ : Triple 𝓤 (C #value-of) (ValueOf 𝓤 H A at-mem run)) where
     walk : ent 𝓤 (onEntry 𝓤 H A next.signature (κ, (κ′, tt)) (q, (q′, tt)) x at) (WpFn 𝓤 H C Λ code.function (vptr b o ∷ []) Post)
     walk =
         qed W ((‵ (flft κ q) ⊛ ‵ (flft κ′ q′) ⊛ ‵ ftrue) ∷ ‵ (owns (MutRef (named 0) κ (B κ′) ∷ []) x at) ∷ []) ∵ enter ! C Λ code.function (vptr b o ∷ []) _ $
-        alloc1 ! (λ l₀. alloc1 ! (λ l₁. alloc1 ! (λ l₂. alloc1 ! (λ l₃. alloc1 ! (λ l₄. alloc1 ! (λ l₅. alloc0 ! $ params1 ! $ pass1 ! (init ! 8 refl (tt, tt)) $ pass0 ! $
-        move ! (13 ∷ []) $ fsplit ! $ fsplit3 ! $ drop ! $ move ! (15 ∷ []) $ split ! $ move ! (2 ∷ 3 ∷ 0 ∷ []) $
+        alloc1 ! (λ l₀. alloc1 ! (λ l₁. alloc1 ! (λ l₂. alloc1 ! (λ l₃. alloc1 ! (λ l₄. alloc1 ! (λ l₅. alloc1 ! (λ l₆. alloc0 ! $ params1 ! $ pass1 ! (init ! 10 refl (tt, tt)) $ pass0 ! $
+        move ! (15 ∷ []) $ fsplit ! $ fsplit3 ! $ drop ! $ move ! (17 ∷ []) $ split ! $ move ! (2 ∷ 3 ∷ 0 ∷ []) $
         opens ! tt (B κ′) {h = d} b o (λ vs. spelt ! (B κ′) (Is (B κ′)) (shows 𝓤 H A (B κ′)) (LL.vals D L) (LL.tells D L) fullShare d vs b o $
         use1 W (‵ (fat fullShare (T′.mir erased) b o mach)) (W .laws .raw-at fullShare (T′.mir erased) b o mach) $
         move ! (1 ∷ []) $ peeks ! (B κ′) (Is (B κ′)) (shows 𝓤 H A (B κ′)) d (mach ∷ []) (λ was. move ! (1 ∷ 0 ∷ []) $
-        -- [the walker's cell; what it owns; the open borrow; obs; auth; 'a's token; …; _5; …; _4; …; _3; …; _2; …; _1; …; room for _0; …]
-        assigns ! (of-opd ! (load ! (from ! (hop ! (look ! 15 refl) (fld ! refl (stop !)))) (look-in ! 0 (sub ! 0 refl (whole !))))) (from ! (stop !)) (init ! 9 refl (tt, LL.lawful D L 𝓤 H A W .typed d _ was .0 .1 .0)) $
-        assigns ! (of-opd ! (load ! (from ! (hop ! (look ! 15 refl) (fld ! refl (stop !)))) (look-in ! 0 (sub ! 1 refl (whole !))))) (from ! (stop !)) (init ! 7 refl (tt, LL.lawful D L 𝓤 H A W .typed d _ was .0 .1 .1 .0)) $
-        move ! (1 ∷ 5 ∷ []) $ use2 W (raw (StepAt 𝓤 H A at-mem run .pre to) ⊛ ‵ Own) (apart (LL.lawful D L 𝓤 H A W .typed d _ was .0 .1 .1 .0 .fits)) $ split ! $
-        calls-at ! fm (StepAt 𝓤 H A at-mem run) known to (and-then ! (load ! (from ! (stop !)) (look ! 9 refl)) (and-then ! (load ! (from ! (stop !)) (look ! 7 refl)) (no-more !))) (λ u.
-        use1 W (later (some (λ (r : Stepped). ((‵ (flft κ′ q′) ⊛ ‵ ftrue) ⊛ ‵ (OwnN r u)) ⊛ raw (ensured 𝓤 H A step-at.ended (step-at.clauses 𝓤 H A at-mem run) (κ′, tt) (d .bytes, (d .at, tt)) tt r)))) (id⊢ 𝓤 _) $ await ! tt $ pick ! (λ r.
+        -- [the walker's cell; what it owns; the open borrow; obs; auth; 'a's token; …; _6; …; _5; …; _4; …; _3; …; _2; …; _1; …; room for _0; …]
+        assigns ! (of-opd ! (load ! (from ! (hop ! (look ! 17 refl) (fld ! refl (stop !)))) (look-in ! 0 (sub ! 2 refl (whole !))))) (from ! (stop !)) (init ! 11 refl (tt, LL.lawful D L 𝓤 H A W .typed d _ was .0 .1 .1 .1 .0)) $
+        assigns ! (of-opd ! (load ! (from ! (hop ! (look ! 17 refl) (fld ! refl (stop !)))) (look-in ! 0 (sub ! 0 refl (whole !))))) (from ! (stop !)) (init ! 9 refl (tt, LL.lawful D L 𝓤 H A W .typed d _ was .0 .1 .0)) $
+        assigns ! (of-opd ! (load ! (from ! (hop ! (look ! 17 refl) (fld ! refl (stop !)))) (look-in ! 0 (sub ! 1 refl (whole !))))) (from ! (stop !)) (init ! 7 refl (tt, LL.lawful D L 𝓤 H A W .typed d _ was .0 .1 .1 .0)) $
+        move ! (1 ∷ 5 ∷ []) $ use2 W (raw (StepWithin 𝓤 H A at-mem run .pre to) ⊛ ‵ Own) (apart (LL.lawful D L 𝓤 H A W .typed d _ was .0 .1 .1 .0 .fits) (LL.lawful D L 𝓤 H A W .typed d _ was .0 .1 .1 .1 .0 .fits)) $ split ! $
+        calls-at ! fm (StepWithin 𝓤 H A at-mem run) known to (and-then ! (load ! (from ! (stop !)) (look ! 11 refl)) (and-then ! (load ! (from ! (stop !)) (look ! 9 refl)) (and-then ! (load ! (from ! (stop !)) (look ! 7 refl)) (no-more !)))) (λ u.
+        use1 W (later (some (λ (r : Stepped). ((‵ (flft κ′ q′) ⊛ ‵ ftrue) ⊛ ‵ (OwnN r u)) ⊛ raw (ensured 𝓤 H A step-within.ended (step-within.clauses 𝓤 H A at-mem run) (κ′, tt) (d .limit, (d .bytes, (d .at, tt))) tt r)))) (id⊢ 𝓤 _) $ await ! tt $ pick ! (λ r.
         split ! $ move ! (1 ∷ []) $ use1 W (raw (fact 𝓤 (steppedIs r ≡ stepOf d))) (said r) $ heard ! (steppedIs r ≡ stepOf d) (λ e. split ! $ move ! (1 ∷ []) $
-        -- [the step; 'a's token; what the walker owns; its cell; the open borrow; obs; auth; …; _5; …]
+        -- [the step; 'a's token; what the walker owns; its cell; the open borrow; obs; auth; …; _6; …]
         peeks ! N.the-row (Is N.the-row) (shows 𝓤 H A N.the-row) r (u ∷ []) (λ is.
-        land ! (from ! (stop !)) (init ! 14 refl (LL.lawful N.the-type N′.the-laws 𝓤 H A W .typed r _ is .0)) $
-        rewrite ! 14 (λ (z : Val). ‵ (fat fullShare N′.mir l₂ 0 z)) (ap only (LL.tells N.the-type N′.the-laws r _ is)) refl $
+        land ! (from ! (stop !)) (init ! 16 refl (LL.lawful N.the-type N′.the-laws 𝓤 H A W .typed r _ is .0)) $
+        rewrite ! 16 (λ (z : Val). ‵ (fat fullShare N′.mir l₂ 0 z)) (ap only (LL.tells N.the-type N′.the-laws r _ is)) refl $
         rewrite ! 0 (λ (z : Val). ‵ (OwnN r z)) (ap only (LL.tells N.the-type N′.the-laws r _ is)) refl $
         peeks ! N.the-row (Is N.the-row) (shows 𝓤 H A N.the-row) r (machN r ∷ []) (λ is′.
         use1 W (‵ (OwnA r)) (answered r) $
         forget ! 10 refl $
-        assigns ! (of-opd ! (load ! (from ! (hop ! (look ! 16 refl) (fld ! refl (stop !)))) (look-in ! 3 (sub ! 0 refl (whole !))))) (from ! (stop !)) (init ! 10 refl (tt, LL.lawful D L 𝓤 H A W .typed d _ was .0 .1 .0)) $
+        assigns ! (of-opd ! (load ! (from ! (hop ! (look ! 18 refl) (fld ! refl (stop !)))) (look-in ! 3 (sub ! 0 refl (whole !))))) (from ! (stop !)) (init ! 10 refl (tt, LL.lawful D L 𝓤 H A W .typed d _ was .0 .1 .0)) $
         move ! (2 ∷ 1 ∷ 0 ∷ []) $ use3 W (raw (ValueOf 𝓤 H A at-mem run .pre (to₂ r)) ⊛ ‵ Own ⊛ ‵ (OwnA r)) (apart₂ r (found-within d r e)) $ split3 ! $
-        calls-at ! fm (ValueOf 𝓤 H A at-mem run) known₂ (to₂ r) (and-then ! (load ! (from ! (stop !)) (look ! 10 refl)) (and-then ! (load ! (from ! (fld ! refl (stop !))) (look-in ! 14 (sub ! 0 refl (whole !)))) (no-more !))) (λ v.
+        calls-at ! fm (ValueOf 𝓤 H A at-mem run) known₂ (to₂ r) (and-then ! (load ! (from ! (stop !)) (look ! 10 refl)) (and-then ! (load ! (from ! (fld ! refl (stop !))) (look-in ! 16 (sub ! 0 refl (whole !)))) (no-more !))) (λ v.
         use1 W (later (some (λ (p : RefT (List ℕ)). ((‵ (flft κ′ q′) ⊛ ‵ ftrue) ⊛ ‵ (OwnP p v)) ⊛ raw (ensured 𝓤 H A value-of.ended (value-of.clauses 𝓤 H A at-mem run) (κ′, tt) (d .bytes, (r .answer, tt)) tt p)))) (id⊢ 𝓤 _) $ await ! tt $ pick ! (λ p.
         split ! $ move ! (1 ∷ []) $ use1 W (raw (fact 𝓤 (Part (d .bytes) (stepIs (r .answer)) p))) (said₂ r p) $ heard ! (Part (d .bytes) (stepIs (r .answer)) p) (λ h. split ! $ move ! (1 ∷ []) $
-        -- [the part; 'a's token; what the walker owns; the answer; the cell; the open borrow; obs; auth; …; _5; …]
+        -- [the part; 'a's token; what the walker owns; the answer; the cell; the open borrow; obs; auth; …; _6; …]
         peeks ! (ShrSlice (named 0) κ′ u8) (Is (ShrSlice (named 0) κ′ u8)) (shows 𝓤 H A (ShrSlice (named 0) κ′ u8)) p (v ∷ []) (λ is₂.
-        land ! (from ! (stop !)) (init ! 13 refl (shr-slice-lawful 𝓤 H A W erased κ′ u8 .typed p _ is₂ .0)) $
-        rewrite ! 13 (λ (z : Val). ‵ (fat fullShare (sliceTy (tyRef erased imm (tyInt w8))) l₃ 0 z)) (ap only (shr-slice-tells (named 0) κ′ u8 p _ is₂)) refl $
+        land ! (from ! (stop !)) (init ! 15 refl (shr-slice-lawful 𝓤 H A W erased κ′ u8 .typed p _ is₂ .0)) $
+        rewrite ! 15 (λ (z : Val). ‵ (fat fullShare (sliceTy (tyRef erased imm (tyInt w8))) l₃ 0 z)) (ap only (shr-slice-tells (named 0) κ′ u8 p _ is₂)) refl $
         rewrite ! 0 (λ (z : Val). ‵ (OwnP p z)) (ap only (shr-slice-tells (named 0) κ′ u8 p _ is₂)) refl $
-        assigns ! (of-opd ! (load ! (from ! (fld ! refl (stop !))) (look-in ! 15 (sub ! 1 refl (whole !))))) (from ! (hop ! (look ! 17 refl) (fld ! refl (stop !)))) (store-in ! 4 (sub ! 1 refl (whole !)) (tt, LL.lawful N.the-type N′.the-laws 𝓤 H A W .typed r _ is′ .0 .1 .1 .0)) $
+        assigns ! (of-opd ! (load ! (from ! (fld ! refl (stop !))) (look-in ! 17 (sub ! 1 refl (whole !))))) (from ! (hop ! (look ! 19 refl) (fld ! refl (stop !)))) (store-in ! 4 (sub ! 1 refl (whole !)) (tt, LL.lawful N.the-type N′.the-laws 𝓤 H A W .typed r _ is′ .0 .1 .1 .0)) $
         move ! (0 ∷ 3 ∷ []) $ use2 W (‵ (OwnS r p)) (makes r p) $
-        -- [the result; 'a's token; what the walker owns; the cell; the open borrow; obs; auth; …; _5; …]
+        -- [the result; 'a's token; what the walker owns; the cell; the open borrow; obs; auth; …; _6; …]
         peeks ! (S.the-row (α κ′)) (Is (S.the-row (α κ′))) (shows 𝓤 H A (S.the-row (α κ′))) (made r p) (machS r p ∷ []) (λ is₃.
-        assigns ! (agg ! (and-then ! (load ! (from ! (fld ! refl (stop !))) (look-in ! 14 (sub ! 0 refl (whole !)))) (and-then ! (load ! (from ! (stop !)) (look ! 12 refl)) (no-more !)))) (from ! (stop !)) (init ! 18 refl (LL.lawful (S.the-type (α κ′)) (S′.the-laws (α κ′)) 𝓤 H A W .typed (made r p) _ is₃ .0)) $
+        assigns ! (agg ! (and-then ! (load ! (from ! (fld ! refl (stop !))) (look-in ! 16 (sub ! 0 refl (whole !)))) (and-then ! (load ! (from ! (stop !)) (look ! 14 refl)) (no-more !)))) (from ! (stop !)) (init ! 20 refl (LL.lawful (S.the-type (α κ′)) (S′.the-laws (α κ′)) 𝓤 H A W .typed (made r p) _ is₃ .0)) $
         move ! (2 ∷ []) $ use1 W (‵ (B κ′ .own (d′ r) (T′.lowered (d′ r) ∷ []))) (moves r (LL.lawful N.the-type N′.the-laws 𝓤 H A W .typed r _ is′ .0 .1 .1 .0 .fits)) $
         move ! (3 ∷ []) $ use1 W (‵ (cellAt fullShare (B κ′ .mir) (T′.lowered (d′ r) ∷ []) b o)) (W .laws .at-raw fullShare (T′.mir erased) b o (T′.lowered (d′ r))) $
         move ! (0 ∷ 1 ∷ 4 ∷ 5 ∷ 6 ∷ []) $ closes ! tt (B κ′) (d′ r) (T′.lowered (d′ r) ∷ []) b o $
-        -- [obs; the borrow; its token; the result; 'a's token; …; _5; …]
-        returns ! (look ! 16 refl) $ forget ! 6 refl $ forget ! 8 refl $ forget ! 10 refl $ forget ! 12 refl $ forget ! 14 refl $ forget ! 16 refl $
-        move ! (16 ∷ 17 ∷ []) $ free1 ! $ move ! (14 ∷ 15 ∷ []) $ free1 ! $ move ! (12 ∷ 13 ∷ []) $ free1 ! $ move ! (10 ∷ 11 ∷ []) $ free1 ! $ move ! (8 ∷ 9 ∷ []) $ free1 ! $ move ! (6 ∷ 7 ∷ []) $ free1 ! $ free0 ! $ keep ! (0 ∷ 1 ∷ 2 ∷ 3 ∷ 4 ∷ []) $ by ! (exits r p (next-of d r e p h))))))))))))))))))))
+        -- [obs; the borrow; its token; the result; 'a's token; …; _6; …]
+        returns ! (look ! 18 refl) $ forget ! 6 refl $ forget ! 8 refl $ forget ! 10 refl $ forget ! 12 refl $ forget ! 14 refl $ forget ! 16 refl $ forget ! 18 refl $
+        move ! (18 ∷ 19 ∷ []) $ free1 ! $ move ! (16 ∷ 17 ∷ []) $ free1 ! $ move ! (14 ∷ 15 ∷ []) $ free1 ! $ move ! (12 ∷ 13 ∷ []) $ free1 ! $ move ! (10 ∷ 11 ∷ []) $ free1 ! $ move ! (8 ∷ 9 ∷ []) $ free1 ! $ move ! (6 ∷ 7 ∷ []) $ free1 ! $ free0 ! $ keep ! (0 ∷ 1 ∷ 2 ∷ 3 ∷ 4 ∷ []) $ by ! (exits r p (next-of d r e p h)))))))))))))))))))))
 
 module _ {M : Type 1} (𝓤 : URA M) (H : Heap 𝓤) (A : Atoms 𝓤) (W : Given 𝓤 H A) (mem : Memory → SProp 𝓤) (run : Routine → Fun 𝓤) where
-  next-walks : (C : Calls 𝓤 H) (Λ : Loops 𝓤 H) → FmC 𝓤 H (W .laws) C → Triple 𝓤 (C #step-at) (StepAt 𝓤 H A mem run) → Triple 𝓤 (C #value-of) (ValueOf 𝓤 H A mem run)
+  next-walks : (C : Calls 𝓤 H) (Λ : Loops 𝓤 H) → FmC 𝓤 H (W .laws) C → Triple 𝓤 (C #step-within) (StepWithin 𝓤 H A mem run) → Triple 𝓤 (C #value-of) (ValueOf 𝓤 H A mem run)
       → Walks 𝓤 H A next.ended stayed (WpFn 𝓤 H C Λ code.function) (next.clauses 𝓤 H A mem run)
   next-walks C Λ fm known known₂ = walked 𝓤 H A next.ended stayed (next.clauses 𝓤 H A mem run) (WpFn 𝓤 H C Λ code.function) (λ κs. (ptr-vals, tt)) (λ κs. (mut-tells (named 0) (κs .0) (B (κs .1 .0)), tt))
       (λ κs qs bounds a g are. via 𝓤 _ (fst∗ 𝓤 _ (emp 𝓤)) (walk 𝓤 H A W mem run (κs .0) (κs .1 .0) (qs .0) (qs .1 .0) bounds (a .0 .ptr .0) (a .0 .ptr .1) (a .0 .name) (a .0 .now) C Λ fm known known₂))
 
 next-meets : {M : Type 1} (𝓤 : URA M) (H : Heap 𝓤) (A : Atoms 𝓤) (W : Given 𝓤 H A) (mem : Memory → SProp 𝓤) (run : Routine → Fun 𝓤) (𝓣 : Tables 𝓤 H)
-    → Triple 𝓤 (𝓣 .C #step-at) (StepAt 𝓤 H A mem run) → Triple 𝓤 (𝓣 .C #value-of) (ValueOf 𝓤 H A mem run)
+    → Triple 𝓤 (𝓣 .C #step-within) (StepWithin 𝓤 H A mem run) → Triple 𝓤 (𝓣 .C #value-of) (ValueOf 𝓤 H A mem run)
     → Meets 𝓤 H A next.signature (WpFn 𝓤 H (𝓣 .C) (𝓣 .Λ) code.function) (next.spec 𝓤 H A mem run)
 next-meets 𝓤 H A W mem run 𝓣 known known₂ = walk-meets 𝓤 H A next.ended stayed W (goes-ref 𝓤 H A W 2 0 tt behind, tt) (next.clauses 𝓤 H A mem run) (WpFn 𝓤 H (𝓣 .C) (𝓣 .Λ) code.function) (WpFn-mono 𝓤 H (W .laws) 𝓣 code.function)
     (next-walks 𝓤 H A W mem run (𝓣 .C) (𝓣 .Λ) (fmOf 𝓤 H (W .laws) 𝓣) known known₂)
@@ -283,5 +284,5 @@ next-spec 𝓤 H 𝓜 𝓖 𝓡 =
     entered 𝓤 H (tripleOf 𝓤 H (𝓖 .A) next.signature (next.spec 𝓤 H (𝓖 .A) (𝓜 .mem) (𝓡 .run)))
     (tables 𝓤 H 𝓜 𝓡 code.env .C) (tables 𝓤 H 𝓜 𝓡 code.env .Λ) #next code.function (code.unfolded 𝓤 H 𝓜 𝓡)
     (next-meets 𝓤 H (𝓖 .A) (givenOf 𝓤 H 𝓜 𝓖) (𝓜 .mem) (𝓡 .run) (tablesOf 𝓤 H 𝓜 (tables 𝓤 H 𝓜 𝓡 code.env))
-    (cited 𝓤 H (StepAt 𝓤 H (𝓖 .A) (𝓜 .mem) (𝓡 .run)) 𝓜 𝓡 code.env #step-at step-at-def.routine code.calls-reader·walker·step-at (step-at-thm.met 𝓤 H 𝓜 𝓖 𝓡))
+    (cited 𝓤 H (StepWithin 𝓤 H (𝓖 .A) (𝓜 .mem) (𝓡 .run)) 𝓜 𝓡 code.env #step-within step-within-def.routine code.calls-reader·walker·step-within (step-within-thm.met 𝓤 H 𝓜 𝓖 𝓡))
     (cited 𝓤 H (ValueOf 𝓤 H (𝓖 .A) (𝓜 .mem) (𝓡 .run)) 𝓜 𝓡 code.env #value-of value-of-def.routine code.calls-reader·walker·value-of (value-of-thm.met 𝓤 H 𝓜 𝓖 𝓡)))
