@@ -53,7 +53,9 @@ static int list(FILE *file) {
     uint64_t place, length, rows, used;
     size_t read = fread(bytes, 1, MOST, file);
     fclose(file);
-    uint64_t refusal = afsungar_read(bytes, read, table, 2 * MOST, text, MOST, &place, &length, &rows, &used);
+    /* the listing names the highest level limit; afsungar_read would refuse a file of more than 16 levels */
+    uint64_t refusal =
+        afsungar_read_within(AFSUNGAR_LEVELS_MOST, bytes, read, table, 2 * MOST, text, MOST, &place, &length, &rows, &used);
     if (refusal) return refused(refusal, place);
     for (uint64_t row = 0; row < rows; row++)
         printf("%" PRIu64 " %02" PRIx64 " %" PRIu64 "\n", row, table[2 * row], table[2 * row + 1]);

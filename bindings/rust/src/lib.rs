@@ -70,9 +70,37 @@
 //! # }
 //! ```
 //!
-//! Whatever is lent, each of them ends with success or with a [`Refusal`], one of fourteen reasons and a place; and after a
+//! Whatever is lent, each of them ends with success or with a [`Refusal`], one of fifteen reasons and a place; and after a
 //! refusal all lent memory holds what it held. docs/FORMAT.md of the repository says what a table is, which bytes it has and
 //! what is refused.
+//!
+//! # The level limit
+//!
+//! The root of a value is at level 1, and each child is one level below its parent. A plain call takes up to 16 levels
+//! ([`LEVELS_DEFAULT`]), and refuses deeper ones ([`TooDeep`](Reason::TooDeep)). Its twin, whose name ends in `within`, takes
+//! the limit as its first argument: from 1 ([`LEVELS_LEAST`]) to 32 ([`LEVELS_MOST`]). Any other limit is refused
+//! ([`LimitOutside`](Reason::LimitOutside)) before anything else is looked at.
+//!
+//! The limit belongs to the call. Nothing of it is in the bytes, and a higher one changes neither the bytes nor the table of
+//! a value that a lower one takes. So whoever writes more than 16 levels has to know that all who read name as many:
+//!
+//! ```
+//! # fn main() -> Result<(), afsungar::Refusal> {
+//! use afsungar::{Reason, Table, Value, LEVELS_MOST};
+//!
+//! let deep: Table = [Value::List(1); 16].into_iter().chain([Value::List(0)]).collect(); // 17 lists, one in the other
+//! assert_eq!(deep.to_bytes().unwrap_err().reason(), Reason::TooDeep);
+//! let bytes = deep.to_bytes_within(LEVELS_MOST)?;
+//!
+//! let refusal = Table::from_bytes(&bytes).unwrap_err();
+//! assert_eq!((refusal.number, refusal.offset()), (3, Some(48))); // at the 17th list
+//! assert_eq!(Table::from_bytes_within(17, &bytes)?, deep);
+//!
+//! let refusal = deep.to_bytes_within(33).unwrap_err();
+//! assert_eq!(refusal.to_string(), "the level limit has to be from 1 to 32 (15)");
+//! # Ok(())
+//! # }
+//! ```
 //!
 //! # What is proved
 //!
@@ -100,10 +128,16 @@ pub use kind::Kind;
 pub use refusal::{Reason, Refusal, Task};
 pub use table::{Children, Row, Rows, Table};
 pub use value::{Element, Mismatch, Value};
-pub use walker::{values, Values, Walker};
+pub use walker::{values, values_within, Values, Walker};
 
-/// No value stands deeper than this. The root is at level 1, and each child is one level below its parent.
-pub const MAX_LEVEL: usize = 32;
+/// The least level limit that a call may name: the root and nothing below it.
+pub const LEVELS_LEAST: u64 = 1;
+
+/// The most that a call may name. No value stands deeper.
+pub const LEVELS_MOST: u64 = 32;
+
+/// The limit of a call that names none.
+pub const LEVELS_DEFAULT: u64 = 16;
 
 /// The writer's limit for the bytes of a value, the bytes of a text and the number of children. Reading has no such limit.
 pub const MAX_LENGTH: usize = 1_048_576;
@@ -121,14 +155,33 @@ pub struct Extent {
 
 /// The number of bytes that [`write`](write()) writes for a table.
 pub fn size(words: &[u64], text: &[u8]) -> Result<usize, Refusal> {
-    call::size(words, text)
+    call::size(None, words, text)
+}
+
+/// As [`size`], within a level limit.
+///
+/// ```
+/// use afsungar::{size_within, Reason, Refusal};
+///
+/// let words = [0xd0, 1, 0x40, 0]; // a list of one null: two levels
+/// assert_eq!(size_within(2, &words, &[]), Ok(4));
+/// assert_eq!(size_within(1, &words, &[]), Err(Refusal::writing(Reason::TooDeep, 1)));
+/// assert_eq!(size_within(0, &words, &[]), Err(Refusal::writing(Reason::LimitOutside, 0)));
+/// ```
+pub fn size_within(limit: u64, words: &[u64], text: &[u8]) -> Result<usize, Refusal> {
+    call::size(Some(limit), words, text)
 }
 
 /// Writes a table's bytes to the start of `out` and gives their number.
 ///
 /// What is behind them in `out` stays as it is, and on a refusal all of it does.
 pub fn write(words: &[u64], text: &[u8], out: &mut [u8]) -> Result<usize, Refusal> {
-    call::write(words, text, out)
+    call::write(None, words, text, out)
+}
+
+/// As [`write`](write()), within a level limit.
+pub fn write_within(limit: u64, words: &[u64], text: &[u8], out: &mut [u8]) -> Result<usize, Refusal> {
+    call::write(Some(limit), words, text, out)
 }
 
 /// The bytes of a table, in a vector that is as long as they are.
@@ -140,8 +193,17 @@ pub fn write(words: &[u64], text: &[u8], out: &mut [u8]) -> Result<usize, Refusa
 /// # }
 /// ```
 pub fn write_to_vec(words: &[u64], text: &[u8]) -> Result<Vec<u8>, Refusal> {
-    let mut out = vec![0; size(words, text)?];
-    write(words, text, &mut out)?;
+    write_whole(None, words, text)
+}
+
+/// As [`write_to_vec`], within a level limit.
+pub fn write_to_vec_within(limit: u64, words: &[u64], text: &[u8]) -> Result<Vec<u8>, Refusal> {
+    write_whole(Some(limit), words, text)
+}
+
+fn write_whole(limit: call::Limit, words: &[u64], text: &[u8]) -> Result<Vec<u8>, Refusal> {
+    let mut out = vec![0; call::size(limit, words, text)?];
+    call::write(limit, words, text, &mut out)?;
     Ok(out)
 }
 
@@ -155,7 +217,12 @@ pub fn write_to_vec(words: &[u64], text: &[u8]) -> Result<Vec<u8>, Refusal> {
 /// # }
 /// ```
 pub fn measure(bytes: &[u8]) -> Result<Extent, Refusal> {
-    call::measure(bytes)
+    call::measure(None, bytes)
+}
+
+/// As [`measure`], within a level limit.
+pub fn measure_within(limit: u64, bytes: &[u8]) -> Result<Extent, Refusal> {
+    call::measure(Some(limit), bytes)
 }
 
 /// Reads the value at the start of `bytes` into `words`, two to a row, and `text`; what stands behind the value is not
@@ -164,7 +231,12 @@ pub fn measure(bytes: &[u8]) -> Result<Extent, Refusal> {
 /// What is behind the table in `words` and `text` stays as it is, and on a refusal all of it does. A lone last word of
 /// `words` is room for no row.
 pub fn read(bytes: &[u8], words: &mut [u64], text: &mut [u8]) -> Result<Extent, Refusal> {
-    call::read(bytes, words, text)
+    call::read(None, bytes, words, text)
+}
+
+/// As [`read`], within a level limit.
+pub fn read_within(limit: u64, bytes: &[u8], words: &mut [u64], text: &mut [u8]) -> Result<Extent, Refusal> {
+    call::read(Some(limit), bytes, words, text)
 }
 
 /// Reads the value at the start of `bytes` into a table that has exactly the memory that it needs.
@@ -182,4 +254,9 @@ pub fn read(bytes: &[u8], words: &mut [u64], text: &mut [u8]) -> Result<Extent, 
 /// ```
 pub fn read_to_table(bytes: &[u8]) -> Result<Table, Refusal> {
     Table::from_bytes(bytes)
+}
+
+/// As [`read_to_table`], within a level limit.
+pub fn read_to_table_within(limit: u64, bytes: &[u8]) -> Result<Table, Refusal> {
+    Table::from_bytes_within(limit, bytes)
 }

@@ -2,7 +2,7 @@ use std::error::Error;
 use std::fmt;
 use std::io;
 
-/// Why nothing was done: one of fourteen reasons, and where.
+/// Why nothing was done: one of fifteen reasons, and where.
 ///
 /// In writing the place is a row, in reading an offset, both counted from 0: [`row`](Refusal::row) and
 /// [`offset`](Refusal::offset) tell which. All lent memory is as it was before the call.
@@ -21,9 +21,9 @@ use std::io;
 /// ```
 #[derive(Clone, Copy, Debug, PartialEq, Eq, Hash)]
 pub struct Refusal {
-    /// The number of the reason, 1 to 14 (docs/FORMAT.md, 5.1).
+    /// The number of the reason, 1 to 15 (docs/FORMAT.md, 5.1).
     pub number: u8,
-    /// A row or an offset, from 0. For reasons that are of no one place (7, 8, 13, 14) it is 0.
+    /// A row or an offset, from 0. For reasons that are of no one place (7, 8, 13, 14, 15) it is 0.
     pub place: u64,
     reason: Reason,
     task: Task,
@@ -38,14 +38,14 @@ pub enum Task {
     Reading,
 }
 
-/// The fourteen reasons of a refusal, by the names and numbers of docs/FORMAT.md, 5.1.
+/// The fifteen reasons of a refusal, by the names and numbers of docs/FORMAT.md, 5.1.
 ///
 /// ```
 /// use afsungar::Reason;
 ///
 /// assert_eq!(Reason::OutputShort.number(), 8);
 /// assert_eq!(Reason::from_number(8), Some(Reason::OutputShort));
-/// assert_eq!(Reason::ALL.len(), 14);
+/// assert_eq!(Reason::ALL.len(), 15);
 /// ```
 #[derive(Clone, Copy, Debug, PartialEq, Eq, PartialOrd, Ord, Hash)]
 #[repr(u8)]
@@ -54,7 +54,7 @@ pub enum Reason {
     RowsAmiss = 1,
     /// 2: the kind is not one of the 25.
     KindUnknown = 2,
-    /// 3: a value would be at level 33.
+    /// 3: a value would be one level beyond the limit of the call: 16, or the one that it names.
     TooDeep = 3,
     /// 4: in writing, an array tells a kind that arrays cannot hold, or an element has another kind than its array tells; in
     /// reading, an array's element code is not allowed.
@@ -82,11 +82,13 @@ pub enum Reason {
     RowsShort = 13,
     /// 14: the lent text is too short for the result.
     TextShort = 14,
+    /// 15: the level limit that the call names is 0 or above 32. It comes before every other reason.
+    LimitOutside = 15,
 }
 
 impl Reason {
-    /// All fourteen, by number.
-    pub const ALL: [Reason; 14] = [
+    /// All fifteen, by number.
+    pub const ALL: [Reason; 15] = [
         Reason::RowsAmiss,
         Reason::KindUnknown,
         Reason::TooDeep,
@@ -101,9 +103,10 @@ impl Reason {
         Reason::SizeAmiss,
         Reason::RowsShort,
         Reason::TextShort,
+        Reason::LimitOutside,
     ];
 
-    /// Its number, 1 to 14.
+    /// Its number, 1 to 15.
     #[must_use]
     pub const fn number(self) -> u8 {
         self as u8
@@ -161,7 +164,10 @@ impl Refusal {
     }
 
     fn has_place(&self) -> bool {
-        !matches!(self.reason, Reason::TooLong | Reason::OutputShort | Reason::RowsShort | Reason::TextShort)
+        !matches!(
+            self.reason,
+            Reason::TooLong | Reason::OutputShort | Reason::RowsShort | Reason::TextShort | Reason::LimitOutside
+        )
     }
 }
 
@@ -170,7 +176,7 @@ impl fmt::Display for Refusal {
         let words = match (self.reason, self.task) {
             (Reason::RowsAmiss, _) => "a row is missing or left over",
             (Reason::KindUnknown, _) => "the kind is not one of the 25",
-            (Reason::TooDeep, _) => "a value stands deeper than level 32",
+            (Reason::TooDeep, _) => "a value stands deeper than the level limit of the call",
             (Reason::ElementUnfit, Task::Writing) => {
                 "an array tells a kind that it cannot hold, or an element has another one"
             }
@@ -185,6 +191,7 @@ impl fmt::Display for Refusal {
             (Reason::SizeAmiss, _) => "a size or count does not fit its body",
             (Reason::RowsShort, _) => "the room for rows is too small",
             (Reason::TextShort, _) => "the room for text is too small",
+            (Reason::LimitOutside, _) => "the level limit has to be from 1 to 32",
         };
         write!(f, "{words} ({})", self.reason.number())?;
         match (self.row(), self.offset()) {
@@ -197,12 +204,12 @@ impl fmt::Display for Refusal {
 
 impl Error for Refusal {}
 
-/// Of the kind `InvalidInput` in writing and `InvalidData` in reading.
+/// Of the kind `InvalidInput` in writing and `InvalidData` in reading. A level limit is input in both.
 impl From<Refusal> for io::Error {
     fn from(refusal: Refusal) -> io::Error {
-        let kind = match refusal.task {
-            Task::Writing => io::ErrorKind::InvalidInput,
-            Task::Reading => io::ErrorKind::InvalidData,
+        let kind = match (refusal.reason, refusal.task) {
+            (Reason::LimitOutside, _) | (_, Task::Writing) => io::ErrorKind::InvalidInput,
+            (_, Task::Reading) => io::ErrorKind::InvalidData,
         };
         io::Error::new(kind, refusal)
     }

@@ -2,8 +2,9 @@ use std::fmt;
 use std::iter::FusedIterator;
 use std::str;
 
+use crate::call::{self, Limit};
 use crate::kind::{children, element_code};
-use crate::{call, Builder, Extent, Kind, Reason, Refusal, Value};
+use crate::{Builder, Extent, Kind, Reason, Refusal, Value};
 
 /// A value as rows and text.
 ///
@@ -84,25 +85,49 @@ impl Table {
 
     /// Reads the value at the start of the bytes, as [`read_to_table`](crate::read_to_table) does.
     pub fn from_bytes(bytes: &[u8]) -> Result<Self, Refusal> {
-        let extent = call::measure(bytes)?;
+        Table::read_whole(None, bytes)
+    }
+
+    /// As [`from_bytes`](Table::from_bytes), within a level limit. A table of more than 16 levels is written again by
+    /// [`to_bytes_within`](Table::to_bytes_within).
+    pub fn from_bytes_within(limit: u64, bytes: &[u8]) -> Result<Self, Refusal> {
+        Table::read_whole(Some(limit), bytes)
+    }
+
+    fn read_whole(limit: Limit, bytes: &[u8]) -> Result<Self, Refusal> {
+        let extent = call::measure(limit, bytes)?;
         // A value has at least a byte for each row and for each byte of text, so this is no more than the bytes call for.
         let mut table = Table { words: vec![0; 2 * extent.rows], text: vec![0; extent.text] };
-        call::read(bytes, &mut table.words, &mut table.text)?;
+        call::read(limit, bytes, &mut table.words, &mut table.text)?;
         Ok(table)
     }
 
     /// Reads the value at the start of the bytes into this table, whose memory is used again. On a refusal the table is as
     /// it was.
     pub fn read_from(&mut self, bytes: &[u8]) -> Result<Extent, Refusal> {
-        let extent = call::measure(bytes)?;
+        self.read_over(None, bytes)
+    }
+
+    /// As [`read_from`](Table::read_from), within a level limit.
+    pub fn read_from_within(&mut self, limit: u64, bytes: &[u8]) -> Result<Extent, Refusal> {
+        self.read_over(Some(limit), bytes)
+    }
+
+    fn read_over(&mut self, limit: Limit, bytes: &[u8]) -> Result<Extent, Refusal> {
+        let extent = call::measure(limit, bytes)?;
         self.words.resize(2 * extent.rows, 0);
         self.text.resize(extent.text, 0);
-        call::read(bytes, &mut self.words, &mut self.text)
+        call::read(limit, bytes, &mut self.words, &mut self.text)
     }
 
     /// The number of bytes that it is written in.
     pub fn size(&self) -> Result<usize, Refusal> {
-        call::size(&self.words, &self.text)
+        call::size(None, &self.words, &self.text)
+    }
+
+    /// As [`size`](Table::size), within a level limit.
+    pub fn size_within(&self, limit: u64) -> Result<usize, Refusal> {
+        call::size(Some(limit), &self.words, &self.text)
     }
 
     /// The bytes that it is written in.
@@ -110,9 +135,19 @@ impl Table {
         crate::write_to_vec(&self.words, &self.text)
     }
 
+    /// As [`to_bytes`](Table::to_bytes), within a level limit.
+    pub fn to_bytes_within(&self, limit: u64) -> Result<Vec<u8>, Refusal> {
+        crate::write_to_vec_within(limit, &self.words, &self.text)
+    }
+
     /// Writes it to the start of `out` and gives the number of bytes written. On a refusal `out` is as it was.
     pub fn write_to(&self, out: &mut [u8]) -> Result<usize, Refusal> {
-        call::write(&self.words, &self.text, out)
+        call::write(None, &self.words, &self.text, out)
+    }
+
+    /// As [`write_to`](Table::write_to), within a level limit.
+    pub fn write_to_within(&self, limit: u64, out: &mut [u8]) -> Result<usize, Refusal> {
+        call::write(Some(limit), &self.words, &self.text, out)
     }
 
     /// Its words, two to a row.

@@ -1,6 +1,7 @@
 use std::iter::FusedIterator;
 
-use crate::{call, Refusal};
+use crate::call::{self, Limit};
+use crate::Refusal;
 
 /// Goes through values that stand end to end.
 ///
@@ -21,6 +22,7 @@ use crate::{call, Refusal};
 /// ```
 #[derive(Clone, Debug)]
 pub struct Walker<'a> {
+    limit: Limit,
     bytes: &'a [u8],
     at: u64,
 }
@@ -29,13 +31,43 @@ impl<'a> Walker<'a> {
     /// A walker at the start of the bytes.
     #[must_use]
     pub const fn new(bytes: &'a [u8]) -> Self {
-        Walker { bytes, at: 0 }
+        Walker { limit: None, bytes, at: 0 }
+    }
+
+    /// A walker at the start of the bytes, each of whose steps names this level limit.
+    ///
+    /// One that may not be named is refused in every step, at the end too.
+    ///
+    /// ```
+    /// use afsungar::{Reason, Walker};
+    ///
+    /// let bytes = [0x40, 0xc0, 0x02, 0x01, 0x40]; // null, and a list of one null
+    /// let mut walker = Walker::within(1, &bytes);
+    /// assert_eq!(walker.step(), Some(Ok(&bytes[..1])));
+    /// assert_eq!(walker.step().unwrap().unwrap_err().reason(), Reason::TooDeep);
+    ///
+    /// let mut walker = Walker::within(0, &[]);
+    /// assert_eq!(walker.step().unwrap().unwrap_err().reason(), Reason::LimitOutside);
+    /// ```
+    #[must_use]
+    pub const fn within(limit: u64, bytes: &'a [u8]) -> Self {
+        Walker { limit: Some(limit), bytes, at: 0 }
     }
 
     /// A walker that begins at an offset. One beyond the end is taken for the end.
     #[must_use]
     pub fn at(bytes: &'a [u8], at: usize) -> Self {
-        Walker { bytes, at: at.min(bytes.len()) as u64 }
+        Walker::new(bytes).moved(at)
+    }
+
+    /// A walker that begins at an offset, as [`at`](Walker::at), and names a level limit, as [`within`](Walker::within).
+    #[must_use]
+    pub fn at_within(limit: u64, bytes: &'a [u8], at: usize) -> Self {
+        Walker::within(limit, bytes).moved(at)
+    }
+
+    fn moved(self, at: usize) -> Self {
+        Walker { at: at.min(self.bytes.len()) as u64, ..self }
     }
 
     /// The bytes of the next value, or nothing at the end.
@@ -43,7 +75,7 @@ impl<'a> Walker<'a> {
     /// The place of a refusal is counted from [`offset`](Walker::offset), where the walker stays.
     pub fn step(&mut self) -> Option<Result<&'a [u8], Refusal>> {
         let rest = self.rest();
-        match call::step(self.bytes, &mut self.at) {
+        match call::step(self.limit, self.bytes, &mut self.at) {
             Ok(0) => None,
             // The value stands at the start of the rest; that is the promise of the step.
             Ok(length) => Some(Ok(&rest[..length])),
@@ -81,7 +113,12 @@ pub const fn values(bytes: &[u8]) -> Values<'_> {
     Values { walker: Walker::new(bytes), over: false }
 }
 
-/// An iterator over values that stand end to end; see [`values`].
+/// As [`values`], within a level limit. One that may not be named is refused in place of the first value, or of none.
+pub const fn values_within(limit: u64, bytes: &[u8]) -> Values<'_> {
+    Values { walker: Walker::within(limit, bytes), over: false }
+}
+
+/// An iterator over values that stand end to end; see [`values`] and [`values_within`].
 #[derive(Clone, Debug)]
 #[must_use]
 pub struct Values<'a> {
@@ -119,8 +156,8 @@ impl<'a> Iterator for Values<'a> {
         if self.over {
             return (0, Some(0));
         }
-        // A value has at least one byte.
-        (usize::from(!self.rest().is_empty()), Some(self.rest().len()))
+        // A value has at least one byte, and a refusal comes where one is left; but that of a level limit comes at the end too.
+        (usize::from(!self.rest().is_empty()), Some(self.rest().len().max(1)))
     }
 }
 

@@ -1,9 +1,14 @@
-//! Tables and bytes by chance, always the same ones.
-use std::collections::BTreeMap;
+//! Tables and bytes by chance, always the same ones. They have up to 32 levels, and most calls name that limit.
+mod forms;
 
-use afsungar::{
-    measure, read, size, values, write, Builder, Extent, Kind, Reason, Refusal, Row, Table, Value, Walker, MAX_LEVEL,
-};
+use std::collections::{BTreeMap, BTreeSet};
+
+use afsungar::{Builder, Kind, Reason, Refusal, Row, Table, Value};
+use forms::{within_each, Form, BYTE};
+
+/// The most levels that a call may name.
+const LEVELS: usize = afsungar::LEVELS_MOST as usize;
+const MOST: Form = Form::Within(afsungar::LEVELS_MOST);
 
 /// xorshift64*, from a fixed seed.
 struct Chance(u64);
@@ -107,7 +112,7 @@ impl Chance {
     /// Fewer the deeper it is, so that tables end.
     fn children(&mut self, level: usize) -> usize {
         match level {
-            MAX_LEVEL => 0,
+            LEVELS => 0,
             1..=3 => self.below(6),
             _ => self.below(3),
         }
@@ -118,7 +123,7 @@ impl Chance {
         let parents = [Kind::List, Kind::Map, Kind::Array, Kind::Described];
         loop {
             let kind = if parent || self.below(4) == 0 { parents[self.below(4)] } else { Kind::ALL[self.below(25)] };
-            if (kind.is_element() || !element) && (kind != Kind::Described || level < MAX_LEVEL) {
+            if (kind.is_element() || !element) && (kind != Kind::Described || level < LEVELS) {
                 return kind;
             }
         }
@@ -131,7 +136,7 @@ impl Chance {
 
     /// Now and then deep down.
     fn table(&mut self) -> Table {
-        let depth = if self.below(8) == 0 { self.below(MAX_LEVEL) } else { 0 };
+        let depth = if self.below(8) == 0 { self.below(LEVELS) } else { 0 };
         let kind = self.kind(1, depth > 0, false);
         Table::build(|t| self.down(t, kind, depth, 1))
     }
@@ -148,11 +153,49 @@ impl Chance {
             Kind::Described => t.described(|t| self.down(t.ulong(36), below, depth - 1, level + 1)),
             _ => t.array(below, |t| {
                 // Beside it are elements that have no children, before and behind it.
-                (0..self.below(2)).for_each(|_| self.put(t, below, MAX_LEVEL));
+                (0..self.below(2)).for_each(|_| self.put(t, below, LEVELS));
                 self.down(t, below, depth - 1, level + 1);
-                (0..self.below(2)).for_each(|_| self.put(t, below, MAX_LEVEL));
+                (0..self.below(2)).for_each(|_| self.put(t, below, LEVELS));
             }),
         };
+    }
+
+    /// Up to three bytes become others.
+    fn damage(&mut self, bytes: &mut [u8]) {
+        for _ in 0..self.below(4) {
+            if !bytes.is_empty() {
+                let at = self.below(bytes.len());
+                bytes[at] = self.number() as u8;
+            }
+        }
+    }
+
+    /// Up to two changes of words or text.
+    fn damaged(&mut self, table: Table) -> Table {
+        let (mut words, mut text) = table.into_parts();
+        for _ in 0..self.below(3) {
+            match self.below(5) {
+                0 => drop(words.pop()),
+                1 => drop(text.pop()),
+                2 => text.push(self.word() as u8),
+                _ if !words.is_empty() => {
+                    let at = self.below(words.len());
+                    words[at] = self.number();
+                }
+                _ => {}
+            }
+        }
+        Table::from_parts(words, text)
+    }
+
+    /// Up to eight rows, each good by itself or nearly so.
+    fn rows(&mut self) -> Table {
+        let words = (0..self.below(9)).flat_map(|_| {
+            let (kind, number) = (Kind::ALL[self.below(25)], self.below(4));
+            let element = Kind::ALL[self.below(25)];
+            [kind.code(), if kind == Kind::Array { element.array_number(number as u32) } else { number as u64 }]
+        });
+        Table::from_parts(words.collect(), vec![])
     }
 }
 
@@ -187,29 +230,28 @@ fn tables_there_and_back() {
     let (mut rows, mut longest, mut kinds, mut arrays) = (0, 0, [0u32; 256], Arrays::default());
     for _ in 0..30_000 {
         let table = chance.table();
-        let bytes = table.to_bytes().unwrap();
-        assert_eq!(table.size(), Ok(bytes.len()));
-        assert_eq!(measure(&bytes), Ok(Extent { length: bytes.len(), rows: table.len(), text: table.text().len() }));
-        let again = Table::from_bytes(&bytes).unwrap();
-        assert_eq!(again, table);
+        let bytes = MOST.bytes_of(&table).unwrap();
+        let (again, length) = MOST.table_of(&bytes).unwrap();
+        assert_eq!((&again, length), (&table, bytes.len()));
         let values = again.values().unwrap();
         values.iter().for_each(|value| kinds[value.kind() as usize] += 1);
         assert_eq!(values.into_iter().collect::<Table>(), table);
         again.root().into_iter().for_each(|root| arrays.see(root, 1, false));
 
         // One byte less of output, of rows and of text; and a front part of the bytes.
-        let mut out = vec![0xaa; bytes.len() - 1];
-        assert_eq!(table.write_to(&mut out).map_err(|refusal| refusal.reason()), Err(Reason::OutputShort));
-        assert!(out.iter().all(|&byte| byte == 0xaa));
+        let mut out = vec![BYTE; bytes.len() - 1];
+        let short = MOST.write(table.words(), table.text(), &mut out);
+        assert_eq!(short.map_err(|refusal| refusal.reason()), Err(Reason::OutputShort));
+        assert!(out.iter().all(|&byte| byte == BYTE));
         let (mut words, mut text) = (table.words().to_vec(), table.text().to_vec());
         words.pop();
-        assert_eq!(read(&bytes, &mut words, &mut text).map_err(|refusal| refusal.number), Err(13));
+        assert_eq!(MOST.read(&bytes, &mut words, &mut text).map_err(|refusal| refusal.number), Err(13));
         words.push(0);
         if text.pop().is_some() {
-            assert_eq!(read(&bytes, &mut words, &mut text).map_err(|refusal| refusal.number), Err(14));
+            assert_eq!(MOST.read(&bytes, &mut words, &mut text).map_err(|refusal| refusal.number), Err(14));
         }
         let front = chance.below(bytes.len());
-        assert_eq!(measure(&bytes[..front]).map_err(|refusal| refusal.reason()), Err(Reason::InputShort));
+        assert_eq!(MOST.measure(&bytes[..front]).map_err(|refusal| refusal.reason()), Err(Reason::InputShort));
         rows += table.len();
         longest = longest.max(bytes.len());
     }
@@ -220,7 +262,33 @@ fn tables_there_and_back() {
     assert!(arrays.of.values().flatten().all(|&seen| seen > 100), "{:?}", arrays.of);
     let compounds = [Kind::List, Kind::Map, Kind::Array];
     assert!(compounds.iter().all(|kind| arrays.of[kind][0] > 1000), "{:?}", arrays.of);
-    assert_eq!(arrays.deepest, MAX_LEVEL);
+    assert_eq!(arrays.deepest, LEVELS);
+}
+
+#[test]
+fn tables_and_bytes_within_each_limit() {
+    let mut chance = Chance(0x00af_5a17_9a6e_d008);
+    let (mut seen, mut refused) = (BTreeSet::new(), BTreeSet::new());
+    for _ in 0..2_000 {
+        fn levels(row: Row<'_>) -> u64 {
+            1 + row.children().map(levels).max().unwrap_or(0)
+        }
+        let table = chance.table();
+        let due = table.root().map(levels);
+        let (bytes, enough) = within_each(|form| form.bytes_of(&table));
+        assert_eq!(enough, due);
+        let mut bytes = bytes.unwrap();
+        let (again, enough) = within_each(|form| form.table_of(&bytes));
+        assert_eq!((again.unwrap().0, enough), (table.clone(), due));
+        seen.extend(due);
+
+        chance.damage(&mut bytes);
+        refused.extend(within_each(|form| form.table_of(&bytes)).0.err().map(|refusal| refusal.number));
+        let table = chance.damaged(table);
+        refused.extend(within_each(|form| form.bytes_of(&table)).0.err().map(|refusal| refusal.number));
+    }
+    assert!(seen.into_iter().eq(1..=32), "a table of each number of levels");
+    assert!([1, 2, 4, 5, 6, 9, 10, 11, 12].iter().all(|number| refused.contains(number)), "{refused:?}");
 }
 
 /// Arrays of many lists, maps or arrays: the writer keeps the sizes of 256 compounds, and goes over larger tables once more.
@@ -234,9 +302,8 @@ fn long_arrays() {
             t.array(kind, |t| (0..count).for_each(|_| chance.put(t, kind, 4)));
         });
         assert_eq!(table.root().map(|root| root.count()), Some(count));
-        let bytes = table.to_bytes().unwrap();
-        assert_eq!(table.size(), Ok(bytes.len()));
-        assert_eq!(Table::from_bytes(&bytes), Ok(table));
+        let bytes = MOST.bytes_of(&table).unwrap();
+        assert_eq!(MOST.table_of(&bytes), Ok((table, bytes.len())));
     }
 }
 
@@ -245,9 +312,9 @@ fn values_end_to_end() {
     let mut chance = Chance(0x00af_5a17_9a6e_d002);
     for _ in 0..500 {
         let tables: Vec<Table> = (0..chance.below(8)).map(|_| chance.table()).collect();
-        let bytes: Vec<u8> = tables.iter().flat_map(|table| table.to_bytes().unwrap()).collect();
-        let found: Vec<Table> = values(&bytes).map(|value| Table::from_bytes(value.unwrap()).unwrap()).collect();
-        assert_eq!(found, tables);
+        let bytes: Vec<u8> = tables.iter().flat_map(|table| MOST.bytes_of(table).unwrap()).collect();
+        let found = MOST.values(&bytes).map(|value| MOST.table_of(value.unwrap()).unwrap().0);
+        assert!(found.eq(tables));
     }
 }
 
@@ -262,22 +329,23 @@ fn arrays_that_are_told_later() {
             .flat_map(|_| match chance.below(3) {
                 0 => vec![0xe0, 0x01, 0x00],
                 1 => vec![0xf0, 0, 0, 0, 4, 0, 0, 0, 0],
-                _ => Table::build(|t| chance.any(t, 3)).to_bytes().unwrap(),
+                _ => MOST.bytes_of(&Table::build(|t| chance.any(t, 3))).unwrap(),
             })
             .collect();
         let fields = [body.len() as u32 + 4, count as u32].map(u32::to_be_bytes);
         let bytes = [&[0xd0], &fields.concat()[..], &body[..]].concat();
-        let table = Table::from_bytes(&bytes).unwrap();
+        let (table, _) = MOST.table_of(&bytes).unwrap();
         let not_told = Value::Array { count: 0, element: None };
         let mut values = table.values().unwrap();
         if let Some(row) = values.iter().position(|&value| value == not_told) {
-            assert_eq!(table.to_bytes(), Err(Refusal::writing(Reason::NumberOutside, row as u64)));
+            assert_eq!(MOST.bytes_of(&table), Err(Refusal::writing(Reason::NumberOutside, row as u64)));
         }
         for value in values.iter_mut().filter(|value| **value == not_told) {
             *value = Value::Array { count: 0, element: Some(chance.kind(3, false, true)) };
         }
         let told: Table = values.into_iter().collect();
-        assert_eq!(Table::from_bytes(&told.to_bytes().unwrap()), Ok(told));
+        let bytes = MOST.bytes_of(&told).unwrap();
+        assert_eq!(MOST.table_of(&bytes), Ok((told, bytes.len())));
     }
 }
 
@@ -286,38 +354,27 @@ fn arrays_that_are_told_later() {
 #[test]
 fn bytes_by_chance() {
     let mut chance = Chance(0x00af_5a17_9a6e_d003);
-    let (mut accepted, mut refused) = (0, [0u32; 15]);
+    let (mut accepted, mut refused) = (0, [0u32; 16]);
     for round in 0..60_000 {
-        let mut bytes = if round % 3 == 0 { chance.bytes() } else { chance.table().to_bytes().unwrap() };
-        for _ in 0..chance.below(4) {
-            if !bytes.is_empty() {
-                let at = chance.below(bytes.len());
-                bytes[at] = chance.number() as u8;
-            }
-        }
-        let mut walker = Walker::new(&bytes);
-        match (measure(&bytes), walker.step()) {
-            (Ok(extent), Some(Ok(value))) => {
+        let mut bytes = if round % 3 == 0 { chance.bytes() } else { MOST.bytes_of(&chance.table()).unwrap() };
+        chance.damage(&mut bytes);
+        match MOST.table_of(&bytes) {
+            Ok((table, _)) => {
                 accepted += 1;
-                assert_eq!(value, &bytes[..extent.length]);
-                let table = Table::from_bytes(&bytes).unwrap();
-                assert_eq!((table.len(), table.text().len()), (extent.rows, extent.text));
                 assert_eq!(table.values().unwrap().into_iter().collect::<Table>(), table);
-                match table.rows().find(|row| (row.kind, row.number) == (Kind::Array.code(), 0)) {
-                    None => assert_eq!(Table::from_bytes(&table.to_bytes().unwrap()), Ok(table)),
-                    Some(row) => {
-                        let refusal = Refusal::writing(Reason::NumberOutside, row.index as u64);
-                        assert_eq!(table.to_bytes(), Err(refusal));
+                let not_told = table.rows().find(|row| (row.kind, row.number) == (Kind::Array.code(), 0));
+                match (MOST.bytes_of(&table), not_told) {
+                    (Ok(bytes), None) => assert_eq!(MOST.table_of(&bytes), Ok((table, bytes.len()))),
+                    (Err(refusal), Some(row)) => {
+                        assert_eq!(refusal, Refusal::writing(Reason::NumberOutside, row.index as u64));
                     }
+                    other => panic!("{other:?} of {bytes:x?}"),
                 }
             }
-            (Err(refusal), Some(Err(step))) => {
+            Err(refusal) => {
                 refused[usize::from(refusal.number)] += 1;
-                assert_eq!(refusal, step);
                 assert!(refusal.offset().is_some_and(|offset| offset <= bytes.len() as u64));
             }
-            (Err(refusal), None) => assert!(bytes.is_empty() && refusal.number == 9),
-            other => panic!("{other:?} of {bytes:x?}"),
         }
     }
     assert!(accepted > 1000, "{accepted}");
@@ -328,9 +385,9 @@ fn bytes_by_chance() {
 #[test]
 fn damaged_arrays() {
     let mut chance = Chance(0x00af_5a17_9a6e_d005);
-    let (mut accepted, mut refused) = (0, [0u32; 15]);
+    let (mut accepted, mut refused) = (0, [0u32; 16]);
     for _ in 0..30_000 {
-        let depth = chance.below(3).min(1) * chance.below(MAX_LEVEL - 2);
+        let depth = chance.below(3).min(1) * chance.below(LEVELS - 2);
         let kind = chance.kind(3, depth > 0, true);
         let array = Table::build(|t| {
             t.array(kind, |t| (0..=chance.below(3)).for_each(|_| chance.down(t, kind, depth, 3)));
@@ -340,15 +397,15 @@ fn damaged_arrays() {
                 t.null().table(&array);
             });
         });
-        let mut bytes = list.to_bytes().unwrap();
-        let start = bytes.len() - array.size().unwrap();
+        let mut bytes = MOST.bytes_of(&list).unwrap();
+        let start = bytes.len() - MOST.size(array.words(), array.text()).unwrap();
         // Behind its code, its size and its count.
         let body = start + if bytes[start] == 0xe0 { 3 } else { 9 };
         for _ in 0..=chance.below(3) {
             let at = body + chance.below(bytes.len() - body);
             bytes[at] = chance.word() as u8;
         }
-        match measure(&bytes) {
+        match MOST.measure(&bytes) {
             Ok(extent) => {
                 accepted += 1;
                 assert_eq!(extent.length, bytes.len());
@@ -367,46 +424,20 @@ fn damaged_arrays() {
 #[test]
 fn tables_by_chance() {
     let mut chance = Chance(0x00af_5a17_9a6e_d004);
-    let (mut accepted, mut refused) = (0, [0u32; 15]);
+    let (mut accepted, mut refused) = (0, [0u32; 16]);
     for round in 0..60_000 {
-        let (mut words, mut text) = if round % 3 == 0 {
-            let words = (0..chance.below(9)).flat_map(|_| {
-                let (kind, number) = (Kind::ALL[chance.below(25)], chance.below(4));
-                let element = Kind::ALL[chance.below(25)];
-                [kind.code(), if kind == Kind::Array { element.array_number(number as u32) } else { number as u64 }]
-            });
-            (words.collect(), Vec::new())
-        } else {
-            chance.table().into_parts()
-        };
-        for _ in 0..chance.below(3) {
-            match chance.below(5) {
-                0 => drop(words.pop()),
-                1 => drop(text.pop()),
-                2 => text.push(chance.word() as u8),
-                _ if !words.is_empty() => {
-                    let at = chance.below(words.len());
-                    words[at] = chance.number();
-                }
-                _ => {}
-            }
-        }
-        let due = size(&words, &text);
-        let mut out = vec![0xaa; due.unwrap_or(100) + 3];
-        assert_eq!(write(&words, &text, &mut out), due);
-        let table = Table::from_parts(words, text);
+        let table = if round % 3 == 0 { chance.rows() } else { chance.table() };
+        let table = chance.damaged(table);
         let shown = format!("{table} {table:?}");
         assert!(!shown.is_empty());
-        match due {
-            Ok(length) => {
+        match MOST.bytes_of(&table) {
+            Ok(bytes) => {
                 accepted += 1;
                 assert!(table.values().is_ok());
-                assert_eq!(out[length..], [0xaa; 3]);
-                assert_eq!(Table::from_bytes(&out), Ok(table));
+                assert_eq!(MOST.table_of(&bytes), Ok((table, bytes.len())));
             }
             Err(refusal) => {
                 refused[usize::from(refusal.number)] += 1;
-                assert!(out.iter().all(|&byte| byte == 0xaa));
                 assert!(refusal.row().is_some_and(|row| row <= table.len() as u64));
             }
         }

@@ -1,28 +1,41 @@
-//! Every refusal, 1 to 14, with its place; and that lent memory keeps what it held.
-use afsungar::{measure, read, size, write, Kind, Reason, Refusal, Table, Task};
+//! Every refusal, 1 to 15, with its place; and that lent memory keeps what it held. 15 comes before all others: each of these is
+//! tried within limits that may not be named as well.
+mod forms;
+
+use afsungar::{measure, size, Kind, Reason, Refusal, Table, Task};
+use forms::{forms, Form, BYTE, OUTSIDE, WORD};
 
 /// The number of an array's row: so many elements of this kind.
 const fn of(kind: u64, count: u64) -> u64 {
     count + 4_294_967_296 * kind
 }
 
+/// Each form of the limits 16 and 32 with what is due, and each limit that may not be named with 15.
+fn each_form(due: Refusal) -> impl Iterator<Item = (Form, Refusal)> {
+    let outside = match due.task() {
+        Task::Writing => Refusal::writing(Reason::LimitOutside, 0),
+        Task::Reading => Refusal::reading(Reason::LimitOutside, 0),
+    };
+    let named = forms(16).into_iter().chain(forms(32)).map(move |form| (form, due));
+    named.chain(OUTSIDE.map(|limit| (Form::Within(limit), outside)))
+}
+
 /// Sizing and writing refuse alike, and the output stays.
 fn writing(words: &[u64], text: &[u8], reason: Reason, row: u64) {
+    let table = Table::from_parts(words.to_vec(), text.to_vec());
+    for (form, due) in each_form(Refusal::writing(reason, row)) {
+        assert_eq!(form.bytes_of(&table), Err(due), "{form:?} {table:?}");
+    }
     let due = Refusal::writing(reason, row);
-    assert_eq!(size(words, text), Err(due));
-    let mut out = [0xaa; 64];
-    assert_eq!(write(words, text, &mut out), Err(due));
-    assert_eq!(out, [0xaa; 64]);
     assert_eq!((due.number, due.place, due.task()), (reason.number(), row, Task::Writing));
 }
 
 /// Measuring and reading refuse alike, and words and text stay.
 fn reading(bytes: &[u8], reason: Reason, offset: u64) {
+    for (form, due) in each_form(Refusal::reading(reason, offset)) {
+        assert_eq!(form.table_of(bytes), Err(due), "{form:?} {bytes:x?}");
+    }
     let due = Refusal::reading(reason, offset);
-    assert_eq!(measure(bytes), Err(due));
-    let (mut words, mut text) = ([0xaaaa; 32], [0xaa; 32]);
-    assert_eq!(read(bytes, &mut words, &mut text), Err(due));
-    assert_eq!((words, text), ([0xaaaa; 32], [0xaa; 32]));
     assert_eq!((due.number, due.place, due.task()), (reason.number(), offset, Task::Reading));
 }
 
@@ -44,21 +57,27 @@ fn kind_unknown_2() {
 
 #[test]
 fn too_deep_3() {
-    let words: Vec<u64> = [0xd0, 1].repeat(33);
-    writing(&words, &[], Reason::TooDeep, 32);
-    reading(&[0; 32], Reason::TooDeep, 32);
-    // Arrays, one in the other; and a list with a child as the last of them.
-    let mut words: Vec<u64> = [0xf0, of(0xf0, 1)].repeat(33);
-    writing(&words, &[], Reason::TooDeep, 32);
-    words.splice(60.., [0xf0, of(0xd0, 1), 0xd0, 1, 0x40, 0]);
-    writing(&words, &[], Reason::TooDeep, 32);
-    // Of another kind than told, and telling no kind: the level comes first.
-    words.splice(60.., [0xf0, of(0xf0, 1), 0xf0, of(0x70, 1), 0xf0, 0]);
-    writing(&words, &[], Reason::TooDeep, 32);
-    // An array at level 31, whose element says that it has a child. None is there, and the level comes first.
-    for code in [0xc0, 0xe0] {
-        let bytes: Vec<u8> = [0; 30].into_iter().chain([0xe0, 0x04, 0x01, code, 0x01, 0x01]).collect();
-        reading(&bytes, Reason::TooDeep, 30);
+    for form in [2, 15, 16, 17, 32].into_iter().flat_map(forms) {
+        let levels = form.limit() as usize;
+        let written = |words: &[u64]| form.bytes_of(&Table::from_parts(words.to_vec(), vec![]));
+        let due = Err(Refusal::writing(Reason::TooDeep, form.limit()));
+        assert_eq!(written(&[0xd0, 1].repeat(levels + 1)), due, "{form:?}");
+        // Arrays, one in the other; and a list with a child as the last of them.
+        let array = [0xf0, of(0xf0, 1)];
+        let outer = array.repeat(levels - 2);
+        assert_eq!(written(&array.repeat(levels + 1)), due, "{form:?}");
+        assert_eq!(written(&[&outer[..], &[0xf0, of(0xd0, 1), 0xd0, 1, 0x40, 0]].concat()), due, "{form:?}");
+        // Of another kind than told, and telling no kind: the level comes first.
+        assert_eq!(written(&[&outer[..], &array, &[0xf0, of(0x70, 1), 0xf0, 0]].concat()), due, "{form:?}");
+
+        // Described values, of which none is whole: the one that is too deep has no byte, and its level comes first.
+        let bytes = vec![0; levels];
+        assert_eq!(form.table_of(&bytes), Err(Refusal::reading(Reason::TooDeep, form.limit())), "{form:?}");
+        // An array at the last level but one, whose element says that it has a child. None is there either.
+        for code in [0xc0, 0xe0] {
+            let bytes = [&bytes[2..], &[0xe0, 0x04, 0x01, code, 0x01, 0x01]].concat();
+            assert_eq!(form.table_of(&bytes), Err(Refusal::reading(Reason::TooDeep, form.limit() - 2)), "{form:?}");
+        }
     }
 }
 
@@ -151,17 +170,17 @@ fn too_long_7() {
     let table = Table::build(|t| {
         t.list_of([&half, &half]);
     });
-    assert_eq!(table.size(), Err(Refusal::writing(Reason::TooLong, 0)));
-    assert_eq!(table.to_bytes(), Err(Refusal::writing(Reason::TooLong, 0)));
+    writing(table.words(), table.text(), Reason::TooLong, 0);
 }
 
 #[test]
 fn output_short_8() {
-    let due = Refusal::writing(Reason::OutputShort, 0);
-    assert_eq!(write(&[0x40, 0], &[], &mut []), Err(due));
-    let mut out = [0xaa; 4];
-    assert_eq!(write(&[0x70, 256], &[], &mut out), Err(due));
-    assert_eq!(out, [0xaa; 4]);
+    for (form, due) in each_form(Refusal::writing(Reason::OutputShort, 0)) {
+        assert_eq!(form.write(&[0x40, 0], &[], &mut []), Err(due), "{form:?}");
+        let mut out = [BYTE; 4];
+        assert_eq!(form.write(&[0x70, 256], &[], &mut out), Err(due), "{form:?}");
+        assert_eq!(out, [BYTE; 4]);
+    }
 }
 
 #[test]
@@ -213,19 +232,20 @@ fn size_amiss_12() {
 #[test]
 fn rows_short_13_and_text_short_14() {
     let bytes = [0xc0, 0x05, 0x01, 0xa1, 0x02, 0x4d, 0x34]; // a list of string M4
-    let mut text = [0xaa; 2];
-    for room in 0..4 {
+    let (mut words, mut text) = ([WORD; 5], [BYTE; 2]);
+    for (form, due) in each_form(Refusal::reading(Reason::RowsShort, 0)) {
         // A lone last word is room for no row.
-        let mut words = vec![0xaaaa; room];
-        assert_eq!(read(&bytes, &mut words, &mut text), Err(Refusal::reading(Reason::RowsShort, 0)));
-        assert_eq!(read(&bytes, &mut words, &mut []), Err(Refusal::reading(Reason::RowsShort, 0)));
-        assert!(words.iter().all(|&word| word == 0xaaaa));
+        for room in 0..4 {
+            assert_eq!(form.read(&bytes, &mut words[..room], &mut text), Err(due), "{form:?}");
+            assert_eq!(form.read(&bytes, &mut words[..room], &mut []), Err(due), "{form:?}");
+        }
     }
-    let mut words = [0xaaaa; 5];
-    assert_eq!(read(&bytes, &mut words, &mut text[..1]), Err(Refusal::reading(Reason::TextShort, 0)));
-    assert_eq!((words, text), ([0xaaaa; 5], [0xaa; 2]));
-    assert_eq!(read(&bytes, &mut words, &mut text).map(|extent| extent.rows), Ok(2));
-    assert_eq!((words, &text), ([0xd0, 1, 0xb1, 2, 0xaaaa], b"M4"));
+    for (form, due) in each_form(Refusal::reading(Reason::TextShort, 0)) {
+        assert_eq!(form.read(&bytes, &mut words, &mut text[..1]), Err(due), "{form:?}");
+    }
+    assert_eq!((words, text), ([WORD; 5], [BYTE; 2]));
+    assert_eq!(Form::Plain.read(&bytes, &mut words, &mut text).map(|extent| extent.rows), Ok(2));
+    assert_eq!((words, &text), ([0xd0, 1, 0xb1, 2, WORD], b"M4"));
 }
 
 #[test]
@@ -238,7 +258,7 @@ fn numbers_and_words() {
         for refusal in [Refusal::writing(reason, 7), Refusal::reading(reason, 7)] {
             let text = refusal.to_string();
             assert!(text.contains(&format!("({})", reason.number())), "{text}");
-            let placed = !matches!(reason.number(), 7 | 8 | 13 | 14);
+            let placed = !matches!(reason.number(), 7 | 8 | 13..=15);
             let writes = refusal.task() == Task::Writing;
             assert_eq!(text.ends_with(" at row 7"), placed && writes, "{text}");
             assert_eq!(text.ends_with(" at offset 7"), placed && !writes, "{text}");
@@ -250,9 +270,9 @@ fn numbers_and_words() {
     }
     seen.sort();
     seen.dedup();
-    assert_eq!(seen.len(), 14 + 10, "ten reasons have a place, and say a row or an offset");
+    assert_eq!(seen.len(), 15 + 10, "ten reasons have a place, and say a row or an offset");
     assert_eq!(Reason::from_number(0), None);
-    assert_eq!(Reason::from_number(15), None);
+    assert_eq!(Reason::from_number(16), None);
 }
 
 #[test]

@@ -1,20 +1,58 @@
 //! The repository's stored cases (crates/vectors/data, whose README.md says how a line reads), each through this crate.
 //!
 //! Outside the repository there is nothing to replay.
+mod forms;
+
 use std::fs;
-use std::path::Path;
+use std::path::{Path, PathBuf};
 
-use afsungar::{measure, read, size, write, Extent, Reason, Refusal, Table, Walker};
+use afsungar::{Extent, Reason, Refusal, Table};
+use forms::{forms, Form};
 
-/// Calls `case` with the fields of each line and gives the number of cases.
-fn replay(file: &str, mut case: impl FnMut(&[&str])) -> Option<usize> {
-    let path = Path::new(env!("CARGO_MANIFEST_DIR")).join("../../crates/vectors/data").join(file);
-    if !path.parent()?.is_dir() {
-        return None;
+/// What a file holds is told by the first of these that is in its name: own_read_big.txt is as read.txt.
+const KINDS: [&str; 7] = ["write", "original", "size", "read", "own_walk", "walk", "listing"];
+
+fn kind_of(path: &Path) -> Option<&'static str> {
+    KINDS.into_iter().find(|&kind| name(path).contains(kind))
+}
+
+fn all_files() -> impl Iterator<Item = PathBuf> {
+    let folder = Path::new(env!("CARGO_MANIFEST_DIR")).join("../../crates/vectors/data");
+    let paths = fs::read_dir(folder).into_iter().flatten().map(|entry| entry.unwrap().path());
+    paths.filter(|path| path.to_string_lossy().ends_with(".txt"))
+}
+
+/// The files of a kind.
+fn files(kind: &str) -> Vec<PathBuf> {
+    all_files().filter(|path| kind_of(path) == Some(kind)).collect()
+}
+
+fn name(path: &Path) -> &str {
+    path.file_name().and_then(|name| name.to_str()).unwrap()
+}
+
+/// Calls `case` with the fields of each line of these files. There are at least so many lines.
+fn replay_lines(kind: &str, least: usize, mut case: impl FnMut(&[&str])) {
+    let files = files(kind);
+    let mut cases = 0;
+    for file in &files {
+        let text = fs::read_to_string(file).unwrap();
+        let before = cases;
+        for line in text.lines().filter(|line| !line.is_empty() && !line.starts_with('#')) {
+            case(&line.split(' ').collect::<Vec<_>>());
+            cases += 1;
+        }
+        assert!(cases > before, "{} has no cases", name(file));
     }
-    let text = fs::read_to_string(&path).unwrap();
-    let lines = text.lines().filter(|line| !line.is_empty() && !line.starts_with('#'));
-    Some(lines.map(|line| case(&line.split(' ').collect::<Vec<_>>())).count())
+    assert!(files.is_empty() || cases >= least, "{cases} cases of {kind}");
+}
+
+/// Calls `case` with each form of the level limit that a line begins with, and the fields behind it.
+fn replay(kind: &str, least: usize, case: fn(Form, &[&str])) {
+    replay_lines(kind, least, |fields| {
+        let limit = fields[0].parse().unwrap();
+        forms(limit).into_iter().for_each(|form| case(form, &fields[1..]));
+    });
 }
 
 /// A part and how often it is there.
@@ -58,83 +96,94 @@ fn answer(field: &str, refused: fn(Reason, u64) -> Refusal) -> Result<&str, Refu
     Err(refused(Reason::from_number(number.parse().unwrap()).unwrap(), place.parse().unwrap()))
 }
 
-fn sized(fields: &[&str]) {
+fn sized(form: Form, fields: &[&str]) {
     let [table, text, due] = fields else { panic!("{fields:?}") };
     let due = answer(due, Refusal::writing).map(|length| length.parse().unwrap());
-    assert_eq!(size(&words(table), &bytes(text)), due, "{fields:?}");
+    assert_eq!(form.size(&words(table), &bytes(text)), due, "{form:?} {fields:?}");
 }
 
-fn written(fields: &[&str]) {
+fn written(form: Form, fields: &[&str]) {
     let [table, text, room, due] = fields else { panic!("{fields:?}") };
     let (words, text, room): (_, _, usize) = (words(table), bytes(text), room.parse().unwrap());
     let due = answer(due, Refusal::writing).map(bytes);
     let mut out = vec![0x5a; room];
-    assert_eq!(write(&words, &text, &mut out), due.as_ref().map(Vec::len).map_err(|&refusal| refusal), "{fields:?}");
+    let found = form.write(&words, &text, &mut out);
+    assert_eq!(found, due.as_ref().map(Vec::len).map_err(|&refusal| refusal), "{form:?} {fields:?}");
     let mut left = due.clone().unwrap_or_default();
     left.resize(room, 0x5a);
-    assert!(out == left, "{fields:?}");
+    assert!(out == left, "{form:?} {fields:?}");
 
     let table = Table::from_parts(words, text);
     match due {
         Ok(bytes) => {
-            assert_eq!(table.size(), Ok(bytes.len()), "{fields:?}");
-            assert!(table.to_bytes().as_ref() == Ok(&bytes), "{fields:?}");
-            assert!(Table::from_bytes(&bytes).as_ref() == Ok(&table), "{fields:?}");
+            assert!(form.bytes_of(&table).as_ref() == Ok(&bytes), "{form:?} {fields:?}");
             assert!(table.values().is_ok(), "{fields:?}");
+            let length = bytes.len();
+            assert!(form.table_of(&bytes) == Ok((table, length)), "{form:?} {fields:?}");
         }
         Err(refusal) if refusal.reason() == Reason::OutputShort => {
-            assert!(table.size().is_ok_and(|size| size > room), "{fields:?}");
+            assert!(form.bytes_of(&table).is_ok_and(|bytes| bytes.len() > room), "{form:?} {fields:?}");
         }
-        Err(refusal) => assert_eq!(table.to_bytes(), Err(refusal), "{fields:?}"),
+        Err(refusal) => assert_eq!(form.bytes_of(&table), Err(refusal), "{form:?} {fields:?}"),
     }
 }
 
-fn was_read(fields: &[&str]) {
+fn was_read(form: Form, fields: &[&str]) {
     let [input, rows_room, text_room, due @ ..] = fields else { panic!("{fields:?}") };
     let input = bytes(input);
     let mut held = vec![0x5a5a; rows_room.parse().unwrap()];
     let mut text = vec![0x5a; text_room.parse().unwrap()];
     let (mut held_due, mut text_due) = (held.clone(), text.clone());
-    let found = read(&input, &mut held, &mut text);
+    let found = form.read(&input, &mut held, &mut text);
     match answer(due[0], Refusal::reading) {
         Ok(length) => {
             let table = Table::from_parts(words(due[1]), bytes(due[2]));
             let extent = Extent { length: length.parse().unwrap(), rows: table.len(), text: table.text().len() };
-            assert_eq!((found, measure(&input)), (Ok(extent), Ok(extent)), "{fields:?}");
+            assert_eq!((found, form.measure(&input)), (Ok(extent), Ok(extent)), "{form:?} {fields:?}");
             held_due[..table.words().len()].copy_from_slice(table.words());
             text_due[..table.text().len()].copy_from_slice(table.text());
-            assert!(Table::from_bytes(&input).as_ref() == Ok(&table), "{fields:?}");
             assert!(table.values().is_ok(), "{fields:?}");
+            assert!(form.table_of(&input) == Ok((table, extent.length)), "{form:?} {fields:?}");
         }
         Err(refusal) => {
-            assert_eq!(found, Err(refusal), "{fields:?}");
+            assert_eq!(found, Err(refusal), "{form:?} {fields:?}");
             match refusal.reason() {
-                Reason::RowsShort | Reason::TextShort => assert!(Table::from_bytes(&input).is_ok(), "{fields:?}"),
-                _ => assert_eq!(Table::from_bytes(&input), Err(refusal), "{fields:?}"),
+                Reason::RowsShort | Reason::TextShort => assert!(form.table_of(&input).is_ok(), "{form:?} {fields:?}"),
+                _ => assert_eq!(form.table_of(&input), Err(refusal), "{form:?} {fields:?}"),
             }
         }
     }
-    assert!(held == held_due && text == text_due, "{fields:?}");
+    assert!(held == held_due && text == text_due, "{form:?} {fields:?}");
 }
 
-fn walked(fields: &[&str]) {
+fn walked(form: Form, fields: &[&str]) {
+    walked_from(0, form, fields);
+}
+
+/// The first field is where the walker begins.
+fn walked_on(form: Form, fields: &[&str]) {
+    walked_from(fields[0].parse().unwrap(), form, &fields[1..]);
+}
+
+fn walked_from(start: usize, form: Form, fields: &[&str]) {
     let input = bytes(fields[0]);
-    let mut walker = Walker::new(&input);
+    let mut walker = form.walker(&input, start);
     for due in &fields[1..] {
         let due = answer(due, Refusal::reading).map(|length| length.parse::<usize>().unwrap());
         let rest = walker.rest();
         match walker.step() {
-            None => assert_eq!(due, Ok(0), "{fields:?}"),
-            Some(Ok(value)) => assert_eq!((Ok(value.len()), value), (due, &rest[..value.len()]), "{fields:?}"),
-            Some(Err(refusal)) => assert_eq!(Err(refusal), due, "{fields:?}"),
+            None => assert_eq!(due, Ok(0), "{form:?} {fields:?}"),
+            Some(Ok(value)) => assert_eq!((Ok(value.len()), value), (due, &rest[..value.len()]), "{form:?} {fields:?}"),
+            Some(Err(refusal)) => assert_eq!(Err(refusal), due, "{form:?} {fields:?}"),
         }
     }
 }
 
+/// The listing names the limit 32.
 fn listed(fields: &[&str]) {
     let input = bytes(fields[0]);
-    let output = match Table::from_bytes(&input) {
-        Ok(table) => format!("{table}end {}\n", measure(&input).unwrap().length),
+    let output = match Form::Within(32).table_of(&input) {
+        Ok((table, length)) => format!("{table}end {length}\n"),
         Err(refusal) => format!("refused {} {}\n", refusal.number, refusal.place),
     };
     let due = fields[1..].join(" ").replace('/', "\n");
@@ -143,27 +192,26 @@ fn listed(fields: &[&str]) {
 
 #[test]
 fn cases_of_the_writer() {
-    for (file, cases) in [
-        ("write.txt", 2629),
-        ("write_big.txt", 23),
-        ("own_write.txt", 3392),
-        ("own_write_big.txt", 92),
-        ("original.txt", 763),
-    ] {
-        assert!(replay(file, written).map_or(true, |found| found >= cases), "{file}");
-    }
-    assert!(replay("size.txt", sized).map_or(true, |found| found >= 2303));
+    replay("write", 8346, written);
+    replay("original", 763, written);
+    replay("size", 3389, sized);
 }
 
 #[test]
 fn cases_of_the_reader() {
-    for (file, cases) in [("read.txt", 4674), ("read_big.txt", 11), ("read_room.txt", 410), ("own_read.txt", 1985)] {
-        assert!(replay(file, was_read).map_or(true, |found| found >= cases), "{file}");
-    }
+    replay("read", 9888, was_read);
 }
 
 #[test]
 fn cases_of_the_walker_and_the_listing() {
-    assert!(replay("walk.txt", walked).map_or(true, |found| found >= 271));
-    assert!(replay("listing.txt", listed).map_or(true, |found| found >= 172));
+    replay("walk", 641, walked);
+    replay("own_walk", 628, walked_on);
+    replay_lines("listing", 229, listed);
+}
+
+#[test]
+fn every_file_is_replayed() {
+    for file in all_files() {
+        assert!(kind_of(&file).is_some(), "{}", name(&file));
+    }
 }

@@ -1,5 +1,8 @@
-//! The worked examples of docs/FORMAT.md, 10.
-use afsungar::{measure, read_to_table, Builder, Extent, Kind, Reason, Refusal, Table, Value};
+//! The worked examples of docs/FORMAT.md, 10. Those of 32 and 33 levels name the limit 32; the others are tried within each.
+mod forms;
+
+use afsungar::{measure, measure_within, read_to_table, Builder, Extent, Kind, Reason, Refusal, Table, Value};
+use forms::within_each;
 
 /// Two hex digits a byte; spaces do not count.
 fn hex(digits: &str) -> Vec<u8> {
@@ -17,9 +20,13 @@ fn written(words: &[u64], text: &str, bytes: &str, build: impl FnOnce(&mut Build
     let (text, bytes) = (hex(text), hex(bytes));
     let table = Table::build(build);
     assert_eq!((table.words(), table.text()), (words, &text[..]));
-    assert_eq!(table.size(), Ok(bytes.len()));
-    assert_eq!(table.to_bytes().as_ref(), Ok(&bytes));
-    assert_eq!(read_to_table(&bytes), Ok(table));
+    assert_eq!(bytes_of(&table), bytes);
+    assert_eq!(within_each(|form| form.table_of(&bytes)).0, Ok((table, bytes.len())));
+}
+
+/// The bytes within each limit.
+fn bytes_of(table: &Table) -> Vec<u8> {
+    within_each(|form| form.bytes_of(table)).0.unwrap()
 }
 
 #[test]
@@ -151,15 +158,15 @@ fn lists(t: &mut Builder, levels: usize) {
 fn lists_in_lists() {
     let table = Table::build(|t| lists(t, 32));
     assert_eq!(table.len(), 32);
-    let bytes = table.to_bytes().unwrap();
+    let bytes = table.to_bytes_within(32).unwrap();
     assert_eq!(bytes.len(), 94);
-    assert_eq!(Table::from_bytes(&bytes), Ok(table));
+    assert_eq!(Table::from_bytes_within(32, &bytes), Ok(table));
 
     let table = Table::build(|t| lists(t, 33));
-    assert_eq!(table.to_bytes(), Err(Refusal::writing(Reason::TooDeep, 32)));
+    assert_eq!(table.to_bytes_within(32), Err(Refusal::writing(Reason::TooDeep, 32)));
     // The same in bytes: the 33rd list is at offset 96.
     let bytes: Vec<u8> = (0..32).rev().flat_map(|n| [0xc0, 3 * n + 2, 1]).chain([0x45]).collect();
-    assert_eq!(measure(&bytes), Err(Refusal::reading(Reason::TooDeep, 96)));
+    assert_eq!(measure_within(32, &bytes), Err(Refusal::reading(Reason::TooDeep, 96)));
 }
 
 fn arrays(t: &mut Builder, levels: usize) {
@@ -173,16 +180,16 @@ fn arrays(t: &mut Builder, levels: usize) {
 #[test]
 fn arrays_in_arrays() {
     let table = Table::build(|t| arrays(t, 32));
-    let bytes = table.to_bytes().unwrap();
+    let bytes = table.to_bytes_within(32).unwrap();
     assert_eq!(table.words()[60..], [0xf0, of(0xf0, 1), 0xf0, of(0x70, 0)]);
     assert_eq!(bytes.len(), 289);
-    assert_eq!(Table::from_bytes(&bytes), Ok(table));
+    assert_eq!(Table::from_bytes_within(32, &bytes), Ok(table));
 
     let table = Table::build(|t| arrays(t, 33));
-    assert_eq!(table.to_bytes(), Err(Refusal::writing(Reason::TooDeep, 32)));
+    assert_eq!(table.to_bytes_within(32), Err(Refusal::writing(Reason::TooDeep, 32)));
     // The same in bytes, the short form throughout: too deep at the outermost array.
     let bytes: Vec<u8> = (0..33).rev().flat_map(|n| [0xe0, 3 * n + 1, u8::from(n > 0)]).collect();
-    assert_eq!(measure(&bytes), Err(Refusal::reading(Reason::TooDeep, 0)));
+    assert_eq!(measure_within(32, &bytes), Err(Refusal::reading(Reason::TooDeep, 0)));
 }
 
 #[test]
@@ -201,56 +208,53 @@ fn the_longest_string() {
 #[test]
 fn the_widths_of_an_array() {
     // The element code and the elements: a body of 254 bytes, then one of 255.
-    let short = Table::build(|t| {
+    let short = bytes_of(&Table::build(|t| {
         t.array_of([7u8; 253]);
-    })
-    .to_bytes()
-    .unwrap();
+    }));
     assert_eq!(short[..4], hex("e0 ff fd 50"));
     assert_eq!(short.len(), 2 + 255);
-    let wide = Table::build(|t| {
+    let wide = bytes_of(&Table::build(|t| {
         t.array_of([7u8; 254]);
-    })
-    .to_bytes()
-    .unwrap();
+    }));
     assert_eq!(wide[..10], hex("f0 00 00 01 03 00 00 00 fe 50"));
     assert_eq!(wide.len(), 5 + 259);
 
     // The same with a list as the element: its code, its size and its count, and a binary of its own code.
     let list = |length| {
-        Table::build(|t| {
+        bytes_of(&Table::build(|t| {
             t.array_of_lists([[&vec![7u8; length]]]);
-        })
-        .to_bytes()
-        .unwrap()
+        }))
     };
     assert_eq!(list(243)[..14], hex("e0 ff 01 d0 00 00 00 f9 00 00 00 01 a0 f3"));
     assert_eq!(list(244)[..20], hex("f0 00 00 01 03 00 00 00 01 d0 00 00 00 fa 00 00 00 01 a0 f4"));
 }
 
 #[test]
-fn read() {
-    let refused = |bytes: &str, reason, offset| {
-        let bytes = hex(bytes);
-        assert_eq!(measure(&bytes), Err(Refusal::reading(reason, offset)), "{bytes:x?}");
-        assert_eq!(read_to_table(&bytes), Err(Refusal::reading(reason, offset)), "{bytes:x?}");
-    };
-    refused("", Reason::InputShort, 0);
-    refused("46", Reason::CodeUnknown, 0);
-    refused("56 02", Reason::PayloadBad, 0);
-    refused("c0 00", Reason::SizeAmiss, 0);
-    refused("c0 01 01", Reason::InputShort, 3);
-    refused("c0 03 01 45 45", Reason::SizeAmiss, 0);
-    refused("c0 05 01 40", Reason::InputShort, 0);
-    refused("c1 02 01 40", Reason::SizeAmiss, 0);
-    refused("e0 02 01 40", Reason::ElementUnfit, 0);
-    refused("e0 02 01 45", Reason::ElementUnfit, 0);
-    refused("e0 05 01 c0 02 01 46", Reason::CodeUnknown, 0);
-    refused("e0 05 01 c1 02 01 40", Reason::SizeAmiss, 0);
-    refused("e0 06 01 c0 03 01 40 40", Reason::SizeAmiss, 0);
-    refused("e0 04 01 c0 02 00 40", Reason::InputShort, 0);
-    refused("c0 09 01 e0 06 01 e0 03 01 56 02", Reason::PayloadBad, 3);
+fn read_and_refused() {
+    for (bytes, reason, offset) in [
+        ("", Reason::InputShort, 0),
+        ("46", Reason::CodeUnknown, 0),
+        ("56 02", Reason::PayloadBad, 0),
+        ("c0 00", Reason::SizeAmiss, 0),
+        ("c0 01 01", Reason::InputShort, 3),
+        ("c0 03 01 45 45", Reason::SizeAmiss, 0),
+        ("c0 05 01 40", Reason::InputShort, 0),
+        ("c1 02 01 40", Reason::SizeAmiss, 0),
+        ("e0 02 01 40", Reason::ElementUnfit, 0),
+        ("e0 02 01 45", Reason::ElementUnfit, 0),
+        ("e0 05 01 c0 02 01 46", Reason::CodeUnknown, 0),
+        ("e0 05 01 c1 02 01 40", Reason::SizeAmiss, 0),
+        ("e0 06 01 c0 03 01 40 40", Reason::SizeAmiss, 0),
+        ("e0 04 01 c0 02 00 40", Reason::InputShort, 0),
+        ("c0 09 01 e0 06 01 e0 03 01 56 02", Reason::PayloadBad, 3),
+    ] {
+        let (found, _) = within_each(|form| form.table_of(&hex(bytes)));
+        assert_eq!(found, Err(Refusal::reading(reason, offset)), "{bytes}");
+    }
+}
 
+#[test]
+fn read() {
     assert_eq!(measure(&hex("40 40")), Ok(Extent { length: 1, rows: 1, text: 0 }));
     assert_eq!(
         read_to_table(&hex("40 40")),
