@@ -1,5 +1,6 @@
-/* arm COUNT: so many random tables and runs of bytes, good and bad, through all five functions. Prints how many were written and read, and a hash of
- * all answers and of all memory that was lent, so that the same program on two processors can be compared (compare/arm). */
+/* arm COUNT: so many random tables and runs of bytes, good and bad, through all ten functions, with and without a level limit. Prints how many were
+ * written and read, how many calls were refused for a level or a limit, and a hash of all answers and of all memory that was lent, so that the same
+ * program on two processors can be compared (compare/arm). */
 #include <inttypes.h>
 #include <stdio.h>
 #include <stdlib.h>
@@ -12,7 +13,12 @@ enum { WORDS = 512, TEXT = 2048, BYTES = 1 << 16, ROWS = 1 << 12 };
 static uint64_t words[WORDS], rows[ROWS];
 static uint8_t text[TEXT], letters[2 * ROWS], out[BYTES], damaged[BYTES];
 static size_t word_count, text_length;
-static uint64_t state = 88172645463325252u, hash = 14695981039346656037u;
+static uint64_t state = 88172645463325252u, hash = 14695981039346656037u, answers[16];
+
+/* The level limit of calls, which may be any word; or they are made without one. */
+static uint64_t limit;
+static int is_plain;
+#define CALL(function, ...) told(is_plain ? function(__VA_ARGS__) : function##_within(limit, __VA_ARGS__), n)
 
 static uint64_t any(void) {
     state ^= state << 13;
@@ -20,7 +26,7 @@ static uint64_t any(void) {
     return state ^= state << 17;
 }
 
-static uint64_t below(uint64_t limit) { return any() % limit; }
+static uint64_t below(uint64_t bound) { return any() % bound; }
 
 static uint64_t number(void) {
     uint64_t shift = below(64), one = below(2);
@@ -33,6 +39,12 @@ static uint64_t number(void) {
     case 5: return 0 - below(300);
     default: return ((uint64_t)1 << shift) - one;
     }
+}
+
+/* Mostly a limit that is in force, and often a low one. */
+static void choose_limit(void) {
+    is_plain = !below(6);
+    limit = below(10) ? 1 + below(below(2) ? 4 : 32) : number();
 }
 
 static void row(uint64_t kind, uint64_t n) {
@@ -97,6 +109,7 @@ static void mix(const void *bytes, size_t n) {
 }
 
 static uint64_t told(uint64_t code, const uint64_t numbers[4]) {
+    answers[code & 15] += 1;
     mix(&code, sizeof code);
     mix(numbers, 4 * sizeof *numbers);
     return code;
@@ -107,15 +120,16 @@ int main(int argc, char **argv) {
     for (uint64_t i = 0; i < count; i++) {
         uint64_t n[4] = {0}, at = 0;
         word_count = text_length = 0;
-        if (below(50)) value(kinds[below(below(30) ? KINDS : KINDS + 1)], 1);
+        if (below(20)) value(kinds[below(below(30) ? KINDS : KINDS + 1)], 1);
         else chain();
         if (!below(40)) word_count -= 1;
+        choose_limit();
 
         size_t room = below(10) ? BYTES : below(64);
         memset(out, 0xee, 64);
-        written += !told(afsungar_write(words, word_count, text, text_length, out, room, &n[0], &n[1]), n);
+        written += !CALL(afsungar_write, words, word_count, text, text_length, out, room, &n[0], &n[1]);
         mix(out, n[1] > 64 ? n[1] : 64);
-        told(afsungar_size(words, word_count, text, text_length, &n[0], &n[1]), n);
+        CALL(afsungar_size, words, word_count, text, text_length, &n[0], &n[1]);
 
         size_t length = n[1] && n[1] < BYTES ? n[1] : below(40);
         memcpy(damaged, out, length);
@@ -124,18 +138,20 @@ int main(int argc, char **argv) {
             damaged[place] = (uint8_t)any();
         }
         if (!below(3)) length = below(length + 1);
-        told(afsungar_measure(damaged, length, &n[0], &n[1], &n[2], &n[3]), n);
+        choose_limit();
+        CALL(afsungar_measure, damaged, length, &n[0], &n[1], &n[2], &n[3]);
         size_t row_room = below(8) ? ROWS : below(40), text_room = below(8) ? 2 * ROWS : below(40);
         memset(rows, 0xee, 64);
         memset(letters, 0xee, 64);
-        read += !told(afsungar_read(damaged, length, rows, row_room, letters, text_room, &n[0], &n[1], &n[2], &n[3]), n);
+        read += !CALL(afsungar_read, damaged, length, rows, row_room, letters, text_room, &n[0], &n[1], &n[2], &n[3]);
         mix(rows, n[2] > 4 ? 16 * n[2] : 64);
         mix(letters, n[3] > 64 ? n[3] : 64);
         for (int steps = 0; steps < 3; steps++) {
-            told(afsungar_step(damaged, length, &at, &n[0], &n[1]), n);
+            CALL(afsungar_step, damaged, length, &at, &n[0], &n[1]);
             mix(&at, sizeof at);
         }
     }
-    printf("%" PRIu64 " tables, %" PRIu64 " written, %" PRIu64 " read, hash %016" PRIx64 "\n", count, written, read, hash);
+    printf("%" PRIu64 " tables, %" PRIu64 " written, %" PRIu64 " read; calls refused: %" PRIu64 " with 3, %" PRIu64 " with 15; hash %016" PRIx64 "\n",
+           count, written, read, answers[3], answers[15], hash);
     return 0;
 }

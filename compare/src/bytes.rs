@@ -1,6 +1,6 @@
-//! Reading whatever bytes: we answer what the judge's own reader answers; measuring, reading and the walker agree, appended bytes change
-//! nothing but a 9, at most one front is accepted, and nothing is touched that should not be. A table in any form that the format allows
-//! is read to that table.
+//! Reading whatever bytes, within the highest level limit: we answer what the judge's own reader answers; measuring, reading and the walker agree,
+//! appended bytes change nothing but a 9, at most one front is accepted, and nothing is touched that should not be. A table in any form that the
+//! format allows is read to that table. The same runs are read within other limits.
 
 use crate::{
     damage::Damage,
@@ -8,9 +8,12 @@ use crate::{
     findings::Findings,
     forms::{self, AnyForm},
     generate::Generator,
+    levels,
+    limit::Limit,
     ours::{self, Told, PATTERN, PATTERN_WORD},
     random::Random,
-    reader, report,
+    reader::{self, Found},
+    report,
     table::{hex, Table},
 };
 
@@ -30,6 +33,10 @@ pub fn run(plan: &Plan) -> Findings {
         }
     }
     judge.print(plan);
+    for number in ANSWERS {
+        judge.findings.need(&format!("of runs of bytes the answer {number}"), judge.numbers[number]);
+    }
+    judge.findings.add(levels::conclude([("runs of bytes", judge.levels)]));
     judge.findings.print();
     judge.findings
 }
@@ -41,9 +48,13 @@ const FRONTS: usize = 64;
 /// For so many runs of bytes there is one table in any form.
 const FORMS: u64 = 5;
 
+/// Success, and all that measuring refuses within a limit that is in force.
+const ANSWERS: [usize; 7] = [0, 3, 4, 9, 10, 11, 12];
+
 struct Judge {
     damage: Damage,
     findings: Findings,
+    levels: levels::Judge,
     numbers: [u64; 16],
     fronts: u64,
     appended: u64,
@@ -65,6 +76,7 @@ impl Judge {
         Judge {
             damage: Damage::new(seed),
             findings: Findings::default(),
+            levels: levels::Judge::new(seed, levels::BYTES),
             numbers: [0; 16],
             fronts: 0,
             appended: 0,
@@ -82,11 +94,12 @@ impl Judge {
 
     fn next(&mut self) {
         let bytes = self.damage.bytes().to_vec();
-        let told = ours::measure(&bytes);
+        let told = ours::measure(Limit::HIGHEST, &bytes);
         self.numbers[(told.number as usize).min(15)] += 1;
-        let possible = matches!(told.number, 0 | 3 | 4 | 9..=12);
+        let possible = ANSWERS.contains(&(told.number as usize));
         self.hold("measuring is fair", told.is_fair() && possible && told.length <= bytes.len() as u64, &bytes, &told);
-        self.own(&bytes, &told);
+        let deepest = self.own(&bytes, &told);
+        self.levels.bytes(&bytes, &told, deepest);
         self.read(&bytes, &told);
         self.append(&bytes, &told);
         self.step(&bytes, &told);
@@ -106,7 +119,7 @@ impl Judge {
         self.untold_forms += table.untold().is_some() as u64;
         let mut bytes = Vec::new();
         forms::write(&table, forms, &mut bytes);
-        let (told, back) = ours::read_whole(&bytes);
+        let (told, back) = ours::read_whole(Limit::HIGHEST, &bytes);
         let due = Told::success(bytes.len(), table.rows(), table.text.len());
         self.hold("a table in any form is read to that table", told == due && back == table, &bytes, &told);
     }
@@ -117,15 +130,18 @@ impl Judge {
         }
     }
 
-    /// The judge's own reader gives the same answer, and the same table.
-    fn own(&mut self, bytes: &[u8], told: &Told) {
-        let same = match reader::read(bytes) {
+    /// The judge's own reader gives the same answer, and the same table. It says how deep it looked.
+    fn own(&mut self, bytes: &[u8], told: &Told) -> u32 {
+        let Found { value, deepest } = reader::read(Limit::HIGHEST, bytes);
+        let same = match value {
             Ok((table, length)) => {
-                *told == Told::success(length, table.rows(), table.text.len()) && ours::read_whole(bytes).1 == table
+                let back = ours::read_whole(Limit::HIGHEST, bytes).1;
+                *told == Told::success(length, table.rows(), table.text.len()) && back == table
             }
             Err(refusal) => *told == refusal,
         };
         self.hold("the judge's own reader agrees", same, bytes, told);
+        deepest
     }
 
     /// Lends so many words and bytes of text, all of them the pattern, and reads.
@@ -134,7 +150,7 @@ impl Judge {
         self.words.resize(words, PATTERN_WORD);
         self.text.clear();
         self.text.resize(text, PATTERN);
-        ours::read(bytes, &mut self.words, &mut self.text)
+        ours::read(Limit::HIGHEST, bytes, &mut self.words, &mut self.text)
     }
 
     /// Whether what was lent is the pattern still, from these places on.
@@ -172,7 +188,7 @@ impl Judge {
         for _ in 0..self.damage.random().within(1, 12) {
             self.longer.push(self.damage.random().byte());
         }
-        let longer = ours::measure(&self.longer);
+        let longer = ours::measure(Limit::HIGHEST, &self.longer);
         if told.number == 9 {
             self.changed += (longer != *told) as u64;
         } else {
@@ -185,44 +201,56 @@ impl Judge {
         for i in 0..value.len().min(FRONTS) {
             let length = if value.len() <= FRONTS { i } else { self.damage.random().below(value.len()) };
             self.fronts += 1;
-            let told = ours::measure(&value[..length]);
+            let told = ours::measure(Limit::HIGHEST, &value[..length]);
             self.hold("a front of a value is refused with 9", told.number == 9 && told.is_fair(), value, &told);
         }
     }
 
-    /// What was read is written, and that is read to the same table: all by the Rust wrapper, which has to say the same. Not so where an empty array tells
-    /// no kind: that is refused at its row.
+    /// What was read is written, and that is read to the same table. Not so where an empty array tells no kind: that is refused at its row.
     fn again(&mut self, bytes: &[u8], told: &Told) {
-        let mut table = Table { words: vec![0; 2 * told.rows as usize], text: vec![0; told.text as usize] };
-        let read = afsungar::read(bytes, &mut table.words, &mut table.text);
-        let same = read == afsungar::measure(bytes) && read.is_ok_and(|e| Told::success(e.length, e.rows, e.text) == *told);
-        self.hold("the Rust wrapper's reader agrees", same, bytes, told);
-        let size = afsungar::size(&table.words, &table.text);
-        let mut out = vec![PATTERN; size.unwrap_or(0)];
-        let written = afsungar::write(&table.words, &table.text, &mut out);
-        self.hold("the Rust wrapper's sizing and writing agree", written == size, bytes, told);
+        let table = ours::read_whole(Limit::HIGHEST, bytes).1;
+        let size = ours::size(Limit::HIGHEST, &table);
+        let mut out = vec![PATTERN; size.length as usize];
+        let written = ours::write(Limit::HIGHEST, &table, &mut out);
+        self.hold("sizing and writing agree", written == size, bytes, told);
         let due = table.untold().map(|row| Told::refusal(5, row as u64));
-        self.hold("the judge refuses what tells no kind, and nothing else", domain::refusal(&table) == due, bytes, told);
+        let refusal = domain::check(Limit::HIGHEST, &table).refusal;
+        self.hold("the judge refuses what tells no kind, and nothing else", refusal == due, bytes, told);
         match due {
             Some(due) => {
                 self.untold += 1;
-                let refused = size.is_err_and(|refusal| Told::refusal(refusal.number as u64, refusal.place) == due);
-                self.hold("an empty array that was read and tells no kind is refused", refused, bytes, told);
+                self.hold("an empty array that was read and tells no kind is refused", size == due, bytes, told);
             }
             None => {
-                let back = ours::read_whole(&out).1;
-                self.hold("what was read is written and read again", size.is_ok() && back == table, bytes, told);
+                let back = ours::read_whole(Limit::HIGHEST, &out).1;
+                self.hold("what was read is written and read again", size.is_success() && back == table, bytes, told);
             }
         }
+        self.by_wrapper(bytes, &table);
+    }
+
+    /// The Rust wrapper, called without a limit, says what the functions in C say.
+    fn by_wrapper(&mut self, bytes: &[u8], table: &Table) {
+        let mut back = Table { words: vec![0; table.words.len()], text: vec![0; table.text.len()] };
+        let told = ours::measure(Limit::Plain, bytes);
+        let read = afsungar::read(bytes, &mut back.words, &mut back.text);
+        let same = read == afsungar::measure(bytes) && told_by(read, |e| Told::success(e.length, e.rows, e.text)) == told;
+        self.hold("the Rust wrapper's reader agrees", same && (back == *table) == told.is_success(), bytes, &told);
+        let told = ours::size(Limit::Plain, table);
+        let size = afsungar::size(&table.words, &table.text);
+        let mut out = vec![PATTERN; told.length as usize];
+        let same = size == afsungar::write(&table.words, &table.text, &mut out);
+        let same = same && told_by(size, |length| Told::success(length, 0, 0)) == told;
+        self.hold("the Rust wrapper's sizing and writing agree", same, bytes, &told);
     }
 
     /// A step from the start is measuring; from the end on it is done.
     fn step(&mut self, bytes: &[u8], told: &Told) {
-        let (step, at) = ours::step(bytes, 0);
+        let (step, at) = ours::step(Limit::HIGHEST, bytes, 0);
         let due = if bytes.is_empty() { Told::success(0, 0, 0) } else { Told { rows: 0, text: 0, ..*told } };
         self.hold("a step agrees with measuring", step == due && at == step.length, bytes, &step);
         for end in [bytes.len() as u64, bytes.len() as u64 + 1, u64::MAX] {
-            let (step, at) = ours::step(bytes, end);
+            let (step, at) = ours::step(Limit::HIGHEST, bytes, end);
             self.hold("at the end or beyond it is done", step == Told::success(0, 0, 0) && at == end, bytes, &step);
         }
     }
@@ -235,27 +263,40 @@ impl Judge {
             return;
         }
         let stream = std::mem::take(&mut self.stream);
-        let mut walker = afsungar::Walker::new(&stream);
+        // without a limit, as the Rust wrapper is called, or within one
+        let limit = if self.damage.random().once_in(2) { Limit::Plain } else { Limit::in_force(self.damage.random(), 1) };
+        let refused = Limit::refused(self.damage.random());
         let mut at = 0;
         while at < stream.len() {
             self.walked += 1;
-            let told = ours::measure(&stream[at..]);
-            let (step, to) = ours::step(&stream, at as u64);
+            let told = ours::measure(limit, &stream[at..]);
+            let (step, to) = ours::step(limit, &stream, at as u64);
             let due = Told { rows: 0, text: 0, ..told };
             self.hold("a walk measures at its own place", step == due && to == at as u64 + told.length, &stream[at..], &step);
-            let safe = walker.step();
-            let agree = match safe {
-                Some(Ok(value)) => told.is_success() && value == &stream[at..to as usize],
-                Some(Err(refusal)) => told.number == refusal.number as u64 && told.place == refusal.place,
-                None => false,
-            };
-            self.hold("the Rust wrapper's walker agrees", agree, &stream[at..], &step);
+            let (stays, to) = ours::step(refused, &stream, at as u64);
+            self.hold(
+                "a step with a limit that is refused",
+                stays == Told::refusal(15, 0) && to == at as u64,
+                &stream[at..],
+                &stays,
+            );
+            if limit == Limit::Plain {
+                self.step_of_wrapper(&stream, at, &step);
+            }
             // behind a refusal the walk begins anew, one byte on
             at += told.length.max(1) as usize;
-            walker = afsungar::Walker::at(&stream, at);
         }
         self.stream = stream;
         self.stream.clear();
+    }
+
+    fn step_of_wrapper(&mut self, stream: &[u8], at: usize, step: &Told) {
+        let agrees = match afsungar::Walker::at(stream, at).step() {
+            Some(Ok(value)) => step.is_success() && value == &stream[at..at + step.length as usize],
+            Some(Err(refusal)) => *step == Told::refusal(refusal.number as u64, refusal.place),
+            None => false,
+        };
+        self.hold("the Rust wrapper's walker agrees", agrees, &stream[at..], step);
     }
 
     fn print(&self, plan: &Plan) {
@@ -282,5 +323,13 @@ impl Judge {
                 of("of these with an empty array that tells no kind and has no element code", self.untold_forms),
             ],
         );
+    }
+}
+
+/// What the Rust wrapper tells, as the functions in C tell it.
+fn told_by<T>(answer: Result<T, afsungar::Refusal>, success: impl FnOnce(T) -> Told) -> Told {
+    match answer {
+        Ok(extent) => success(extent),
+        Err(refusal) => Told::refusal(refusal.number as u64, refusal.place),
     }
 }

@@ -1,9 +1,9 @@
 //! Random, damaged and truncated bytes.
 
 use crate::{
-    domain::LEVELS,
     forms::{self, AnyForm},
     generate::Generator,
+    limit::Limit,
     ours,
     random::Random,
     table::Table,
@@ -80,7 +80,7 @@ impl Damage {
         }
     }
 
-    /// Lists, arrays and described values, one in the other, to about the last level or beyond it. An array of one element has the bytes of a
+    /// Lists, arrays and described values, one in the other, to about the last level of a limit or beyond it. An array of one element has the bytes of a
     /// list of one value, but for its code.
     fn deep(&mut self) {
         let inner: [&[u8]; 9] = [
@@ -97,7 +97,8 @@ impl Damage {
         let inner = self.random.of(&inner);
         let wraps =
             self.random.of(&[&[0xc0][..], &[0xe0], &[0xc0, 0xe0], &[0xd0, 0xe0, 0xe0], &[0xf0, 0xc0], &[0x00, 0xe0, 0xc0]]);
-        let levels = self.random.within(LEVELS as usize - 3, LEVELS as usize + 1);
+        let last = Limit::last_level(&mut self.random) as usize;
+        let levels = self.random.within(last.saturating_sub(3), last + 1);
         self.bytes.clear();
         self.bytes.extend_from_slice(inner);
         for level in 0..levels {
@@ -127,7 +128,7 @@ impl Damage {
         const LONG: u64 = 2_000;
         let table: &Table = loop {
             let table = self.tables.table();
-            if ours::size(table).length <= LONG {
+            if ours::size(Limit::HIGHEST, table).length <= LONG {
                 break table;
             }
         };
@@ -137,8 +138,8 @@ impl Damage {
             self.forms.untell(&mut table);
             return forms::write(&table, &mut self.forms, &mut self.bytes);
         }
-        self.bytes.resize(ours::size(table).length as usize, 0);
-        ours::write(table, &mut self.bytes);
+        self.bytes.resize(ours::size(Limit::HIGHEST, table).length as usize, 0);
+        ours::write(Limit::HIGHEST, table, &mut self.bytes);
     }
 
     /// One change at one place.

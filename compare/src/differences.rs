@@ -2,6 +2,7 @@
 //! we do, what we read the crate's bytes to, and what Part 1 says. That both do it is checked, and that the document states it.
 
 use crate::{
+    limit::Limit,
     original,
     ours::{self, PATTERN},
     report,
@@ -509,10 +510,10 @@ fn crate_does(table: &Table) -> String {
 }
 
 fn we_do(table: &Table) -> String {
-    let told = ours::size(table);
+    let told = ours::size(Limit::HIGHEST, table);
     let length = told.length as usize;
     let mut out = vec![PATTERN; length + 8];
-    let written = ours::write(table, &mut out);
+    let written = ours::write(Limit::HIGHEST, table, &mut out);
     match told.number {
         _ if written != told => format!("sizing gives {told}, writing {written}"),
         _ if out[length..] != [PATTERN; 8] => "touches what stands behind".into(),
@@ -527,7 +528,7 @@ fn we_read(table: &Table) -> String {
     if original::try_write(table, &mut bytes).is_err() {
         return NOTHING.into();
     }
-    let (told, back) = ours::read_whole(&bytes);
+    let (told, back) = ours::read_whole(Limit::HIGHEST, &bytes);
     match told.number {
         0 if told.length as usize != bytes.len() => format!("{} of the bytes", told.length),
         0 if back == *table => IT.into(),

@@ -2,21 +2,28 @@
 //! and text alone, without our writer: one that refused everything must not pass.
 
 use crate::{
+    limit::Limit,
     ours::Told,
     table::{count_in, kind_in, Kind, Row, Table},
 };
 
 pub const MOST: u64 = 1_048_576;
-pub const LEVELS: u32 = 32;
 
-/// What sizing has to refuse, but for 7, which goes by the bytes. Nothing where it has to accept.
-pub fn refusal(table: &Table) -> Option<Told> {
-    walk(table, &mut |_, _| {}).err()
+/// What the checks of a table come to.
+pub struct Checked {
+    /// What sizing has to refuse, but for 7, which goes by the bytes. Nothing where it has to accept.
+    pub refusal: Option<Told>,
+    /// The deepest level at which a row was looked for.
+    pub deepest: u32,
 }
 
-/// Whether a table is one that the writer has to accept, but for the bytes that it takes in all.
+pub fn check(limit: Limit, table: &Table) -> Checked {
+    walk(limit, table, &mut |_, _| {})
+}
+
+/// Whether a table is one that the writer has to accept within the highest limit, but for the bytes that it takes in all.
 pub fn is_table(table: &Table) -> bool {
-    refusal(table).is_none()
+    check(Limit::HIGHEST, table).refusal.is_none()
 }
 
 /// Whether a table is, beside that, one for which the crate's bytes have to be ours.
@@ -27,7 +34,7 @@ pub fn is_equal(table: &Table) -> bool {
 /// The same but for empty arrays, which the crate has no element code for.
 pub fn is_equal_but_empty(table: &Table) -> bool {
     let mut equal = true;
-    let accepted = walk(table, &mut |row, spot| {
+    let checked = walk(Limit::HIGHEST, table, &mut |row, spot| {
         equal &= match spot {
             Spot::Element(_) => !Kind::COMPOUNDS.contains(&row.kind) && (row.kind != Kind::String || row.text.is_ascii()),
             Spot::Key => !matches!(row.kind, Kind::Timestamp | Kind::Array),
@@ -35,7 +42,7 @@ pub fn is_equal_but_empty(table: &Table) -> bool {
             Spot::Any => true,
         }
     });
-    accepted.is_ok() && equal
+    checked.refusal.is_none() && equal
 }
 
 /// Where a value stands. A described value's own value stands where the described value does.
@@ -48,20 +55,11 @@ enum Spot {
     Element(Kind),
 }
 
-/// Goes over a whole table, shows each row that is good to `see`, and gives the first refusal.
-fn walk(table: &Table, see: &mut impl FnMut(&Row, Spot)) -> Result<(), Told> {
-    if table.words.len() % 2 == 1 {
-        return Err(Told::refusal(1, 0));
-    }
-    let mut left = Left { table, row: 0, text: 0 };
-    left.value(1, Spot::Any, see)?;
-    if left.row < table.rows() {
-        return Err(Told::refusal(1, left.row as u64));
-    }
-    if left.text < table.text.len() {
-        return Err(Told::refusal(6, table.rows() as u64));
-    }
-    Ok(())
+/// Goes over a whole table, and shows each row that is good to `see`.
+fn walk(limit: Limit, table: &Table, see: &mut impl FnMut(&Row, Spot)) -> Checked {
+    let mut left = Left { table, row: 0, text: 0, deepest: 0 };
+    let refusal = left.whole(limit, see).err();
+    Checked { refusal, deepest: left.deepest }
 }
 
 /// The rows and the text that are still to be taken.
@@ -69,12 +67,24 @@ struct Left<'a> {
     table: &'a Table,
     row: usize,
     text: usize,
+    deepest: u32,
 }
 
 impl<'a> Left<'a> {
+    /// Takes everything away, if all is well with it.
+    fn whole(&mut self, limit: Limit, see: &mut impl FnMut(&Row, Spot)) -> Result<(), Told> {
+        let (table, levels) = (self.table, limit.levels()?);
+        let need = |holds: bool, number: u64, place: usize| if holds { Ok(()) } else { Err(Told::refusal(number, place as u64)) };
+        need(table.words.len() % 2 == 0, 1, 0)?;
+        self.value(1, levels, Spot::Any, see)?;
+        need(self.row == table.rows(), 1, self.row)?;
+        need(self.text == table.text.len(), 6, table.rows())
+    }
+
     /// Takes a value's rows away, if all is well with it.
-    fn value(&mut self, level: u32, spot: Spot, see: &mut impl FnMut(&Row, Spot)) -> Result<(), Told> {
-        let row = self.take(level, spot)?;
+    fn value(&mut self, level: u32, levels: u32, spot: Spot, see: &mut impl FnMut(&Row, Spot)) -> Result<(), Told> {
+        self.deepest = self.deepest.max(level);
+        let row = self.take(level <= levels, spot)?;
         see(&row, spot);
         for i in 0..row.children() {
             let below = match row.kind {
@@ -84,19 +94,19 @@ impl<'a> Left<'a> {
                 Kind::Described if spot == Spot::Key => Spot::Key,
                 _ => Spot::Any,
             };
-            self.value(level + 1, below, see)?;
+            self.value(level + 1, levels, below, see)?;
         }
         Ok(())
     }
 
-    /// The next row, with its text, if all is well with it.
-    fn take(&mut self, level: u32, spot: Spot) -> Result<Row<'a>, Told> {
+    /// The next row, with its text, if all is well with it and with its level.
+    fn take(&mut self, level_fits: bool, spot: Spot) -> Result<Row<'a>, Told> {
         let table = self.table;
         let need = |holds: bool, number: u64| if holds { Ok(()) } else { Err(Told::refusal(number, self.row as u64)) };
         need(self.row < table.rows(), 1)?;
         let number = table.words[2 * self.row + 1];
         let kind = Kind::of(table.words[2 * self.row]).ok_or(Told::refusal(2, self.row as u64))?;
-        need(level <= LEVELS, 3)?;
+        need(level_fits, 3)?;
         let alike = match spot {
             Spot::Element(told) => kind == told,
             _ => true,

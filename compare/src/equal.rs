@@ -5,6 +5,8 @@ use crate::{
     findings::Findings,
     forms::{self, AsWritten},
     generate::Generator,
+    levels,
+    limit::Limit,
     original::{self, Trouble},
     ours::{self, Told, PATTERN},
     report, small,
@@ -23,7 +25,7 @@ const FEW: usize = 3;
 
 pub fn run(plan: &Plan) -> Findings {
     report::heading("Our bytes and the ported crate's");
-    let (mut random, mut small, mut all) = (Judge::default(), Judge::default(), Judge::default());
+    let [mut random, mut small, mut all] = [1, 2, 3].map(|turn| Judge::new(plan.seed + turn));
     let (mut inside, mut any) = (Generator::equal(plan.seed), Generator::all(plan.seed));
     for _ in 0..plan.random {
         random.beside_crate(inside.table());
@@ -43,45 +45,21 @@ pub fn run(plan: &Plan) -> Findings {
             empty.try_table(table);
         }
     });
-
-    let line = |name: String, judge: &Judge| {
-        let c = &judge.counts;
-        let [tables, nested, empty, rows, bytes] = [c.tables, c.nested, c.empty, c.rows, c.bytes].map(report::number);
-        vec![name, tables, nested, empty, rows, bytes, c.deepest.to_string(), judge.failed.to_string()]
-    };
-    const HEAD: [&str; 8] =
-        ["", "tables", "with arrays of lists, maps or arrays", "with empty arrays", "rows", "bytes", "deepest", "unequal"];
-    report::table(
-        1,
-        &[&["inside the domain, beside the crate"], &HEAD[1..]].concat(),
-        &[
-            line(format!("random, seed {}", plan.seed), &random),
-            line(format!("all of at most {} rows over {} leaves", plan.rows, small::ALPHABET.len()), &small),
-        ],
-    );
-    random.counts.print();
-    report::table(
-        1,
-        &[&["all that we accept, beside the judge's own writer"], &HEAD[1..]].concat(),
-        &[line(format!("random, seed {}", plan.seed), &all)],
-    );
-    all.counts.print_arrays();
-    println!("For each table of both: the other's bytes are those of `afsungar_write`, their number that of `afsungar_size`; an output one byte");
-    println!(
-        "shorter is refused (8 at 0) and not touched; behind the bytes nothing is touched; reading them gives the table again.\n"
-    );
+    Judge::print(plan, &random, &small, &all);
     Outside::print(plan.rows, &outside, &empty);
     let mut faults = faults::Judge::new(plan.seed);
     for _ in 0..plan.random {
         faults.next();
     }
     faults.each_array();
-    faults.print();
+    faults.conclude();
 
     let mut findings = random.findings;
-    for others in [small.findings, all.findings, outside.findings, empty.findings, faults.findings] {
+    for others in [small.findings, small.levels.findings, all.findings, outside.findings, empty.findings, faults.findings] {
         findings.add(others);
     }
+    let levels = [("inside the domain", random.levels), ("all that we accept", all.levels), ("with faults", faults.levels)];
+    findings.add(levels::conclude(levels));
     findings.print();
     findings
 }
@@ -121,7 +99,7 @@ impl Default for Counts {
 }
 
 impl Counts {
-    fn add(&mut self, table: &Table, bytes: &[u8]) {
+    fn add(&mut self, table: &Table, bytes: &[u8], deepest: u32) {
         self.tables += 1;
         self.nested += table.is_nested() as u64;
         self.empty += table.has_empty_array() as u64;
@@ -131,7 +109,7 @@ impl Counts {
         }
         self.rows += table.rows() as u64;
         self.bytes += bytes.len() as u64;
-        self.deepest = self.deepest.max(depth(table));
+        self.deepest = self.deepest.max(deepest);
         table.words.chunks(2).for_each(|row| self.kinds[row[0] as usize & 0xff] += 1);
         self.forms[bytes[0] as usize] += 1;
     }
@@ -171,16 +149,27 @@ pub fn depth(table: &Table) -> u32 {
     below(&mut Rows::of(table))
 }
 
-#[derive(Default)]
 struct Judge {
     findings: Findings,
     failed: u64,
     counts: Counts,
+    levels: levels::Judge,
     theirs: Vec<u8>,
     out: Vec<u8>,
 }
 
 impl Judge {
+    fn new(seed: u64) -> Self {
+        Judge {
+            findings: Findings::default(),
+            failed: 0,
+            counts: Counts::default(),
+            levels: levels::Judge::new(seed, levels::TABLES),
+            theirs: Vec::new(),
+            out: Vec::new(),
+        }
+    }
+
     fn beside_crate(&mut self, table: &Table) {
         self.theirs.clear();
         if let Err(trouble) = original::try_write(table, &mut self.theirs) {
@@ -203,30 +192,32 @@ impl Judge {
 
     /// Holds all that we do with a table to the other's bytes.
     fn hold(&mut self, table: &Table) {
-        self.counts.add(table, &self.theirs);
+        let deepest = depth(table);
+        self.counts.add(table, &self.theirs, deepest);
+        self.levels.table(table, &self.theirs, deepest);
         let (theirs, length) = (&self.theirs, self.theirs.len());
         let due = Told::success(length, 0, 0);
-        let told = ours::size(table);
+        let told = ours::size(Limit::HIGHEST, table);
         if told != due {
             return self.fail("size", table, format!("{told}, the other writes {}", hex(theirs)));
         }
         const BEYOND: usize = 8;
         self.out.clear();
         self.out.resize(length + BEYOND, PATTERN);
-        let told = ours::write(table, &mut self.out);
+        let told = ours::write(Limit::HIGHEST, table, &mut self.out);
         if told != due || self.out[..length] != theirs[..] {
             return self.fail("write", table, format!("{told}, {}, the other writes {}", hex(&self.out[..length]), hex(theirs)));
         }
         if self.out[length..] != [PATTERN; BEYOND] {
             return self.fail("write touches what stands behind", table, String::new());
         }
-        let (told, back) = ours::read_whole(theirs);
+        let (told, back) = ours::read_whole(Limit::HIGHEST, theirs);
         if told != Told::success(length, table.rows(), table.text.len()) || back != *table {
             return self.fail("read", table, format!("{told}, {back}"));
         }
         self.out.clear();
         self.out.resize(length - 1, PATTERN);
-        let told = ours::write(table, &mut self.out);
+        let told = ours::write(Limit::HIGHEST, table, &mut self.out);
         if told != Told::refusal(8, 0) || self.out.iter().any(|&byte| byte != PATTERN) {
             self.fail("write without room", table, told.to_string());
         }
@@ -235,6 +226,31 @@ impl Judge {
     fn fail(&mut self, what: &str, table: &Table, more: String) {
         self.failed += 1;
         self.findings.note(what, table.words.len() + table.text.len(), || format!("`{table}`: {more}"));
+    }
+
+    /// Prints what came inside the domain, at random and of few rows, and of all that we accept.
+    fn print(plan: &Plan, random: &Judge, small: &Judge, all: &Judge) {
+        let line = |name: String, judge: &Judge| {
+            let c = &judge.counts;
+            let [tables, nested, empty, rows, bytes] = [c.tables, c.nested, c.empty, c.rows, c.bytes].map(report::number);
+            vec![name, tables, nested, empty, rows, bytes, c.deepest.to_string(), judge.failed.to_string()]
+        };
+        let table = |title: &'static str, lines: &[Vec<String>]| {
+            let columns =
+                ["tables", "with arrays of lists, maps or arrays", "with empty arrays", "rows", "bytes", "deepest", "unequal"];
+            report::table(1, &[&[title], &columns[..]].concat(), lines);
+        };
+        let at_random = format!("random, seed {}", plan.seed);
+        let of_few = format!("all of at most {} rows over {} leaves", plan.rows, small::ALPHABET.len());
+        table("inside the domain, beside the crate", &[line(at_random.clone(), random), line(of_few, small)]);
+        random.counts.print();
+        table("all that we accept, beside the judge's own writer", &[line(at_random, all)]);
+        all.counts.print_arrays();
+        println!("For each table of both, with the limit 32: the other's bytes are those of `afsungar_write_within`, their number that of");
+        println!(
+            "`afsungar_size_within`; an output one byte shorter is refused (8 at 0) and not touched; behind the bytes nothing is"
+        );
+        println!("touched; reading them gives the table again.\n");
     }
 }
 
@@ -258,8 +274,8 @@ struct Outside {
 
 impl Outside {
     fn try_table(&mut self, table: &Table) {
-        let told = ours::size(table);
-        let due = domain::refusal(table).unwrap_or(Told { number: 0, place: 0, ..told });
+        let told = ours::size(Limit::HIGHEST, table);
+        let due = domain::check(Limit::HIGHEST, table).refusal.unwrap_or(Told { number: 0, place: 0, ..told });
         if told != due || !told.is_fair() {
             self.findings.note("accepted or refused against the format", table.words.len(), || format!("`{table}`: {told}"));
         }
@@ -268,7 +284,7 @@ impl Outside {
             return;
         }
         let mut out = vec![PATTERN; told.length as usize];
-        ours::write(table, &mut out);
+        ours::write(Limit::HIGHEST, table, &mut out);
         let mut untold = table.clone();
         untold.untell(|| true);
         let mut theirs = Vec::new();
@@ -276,7 +292,7 @@ impl Outside {
             Ok(()) if theirs == out => self.equal += 1,
             Ok(()) | Err(Trouble::Error(_)) => {
                 self.differ += 1;
-                match ours::read_whole(&theirs) {
+                match ours::read_whole(Limit::HIGHEST, &theirs) {
                     (told, _) if !told.is_success() => self.unread += 1,
                     (_, back) if back == *table => self.read_same += 1,
                     (_, back) if back == untold => self.read_untold += 1,
@@ -301,7 +317,7 @@ impl Outside {
             self.findings
                 .note("write", table.words.len(), || format!("`{table}`: {}, the judge writes {}", hex(&out), hex(&due)));
         }
-        let (_, back) = ours::read_whole(&out);
+        let (_, back) = ours::read_whole(Limit::HIGHEST, &out);
         if back != *table {
             self.findings.note("read", table.words.len(), || format!("`{table}`: {back}"));
         }

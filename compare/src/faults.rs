@@ -1,18 +1,27 @@
 //! Tables with faults, and what we say of them beside what docs/FORMAT.md, 5.2, has us say.
 
 use crate::{
-    domain::{self, LEVELS, MOST},
+    domain::{self, Checked, MOST},
     findings::Findings,
     forms::{self, AsWritten},
     generate::Generator,
+    levels,
+    limit::{Limit, HIGHEST},
     ours::{self, Told, PATTERN},
     random::Random,
     report,
     table::{array, count_in, kind_in, Kind, Table},
 };
 
-/// What is refused of arrays: the number, and what of it is counted.
-const OF_ARRAYS: [(usize, &str); 7] = [
+/// The last refusal of sizing.
+const LAST: usize = 7;
+
+/// Once in so many times a table has about as many bytes as a value may have.
+const LONGEST: usize = 10_000;
+
+/// What is refused: the number, and what of it is counted.
+const PARTS: [(usize, &str); 8] = [
+    (1, "an odd number of words"),
     (4, "an element unlike what its array tells"),
     (4, "an array that tells null"),
     (5, "an array of more than 1,048,576 elements"),
@@ -26,10 +35,11 @@ pub struct Judge {
     random: Random,
     tables: Generator,
     all: u64,
-    numbers: [u64; 15],
-    of_arrays: [u64; OF_ARRAYS.len()],
+    numbers: [u64; 16],
+    parts: [u64; PARTS.len()],
     nested: u64,
     empty: u64,
+    pub levels: levels::Judge,
     table: Table,
     due: Vec<u8>,
     out: Vec<u8>,
@@ -42,10 +52,11 @@ impl Judge {
             random: Random::new(seed ^ 0x5a),
             tables: Generator::all(!seed),
             all: 0,
-            numbers: [0; 15],
-            of_arrays: [0; OF_ARRAYS.len()],
+            numbers: [0; 16],
+            parts: [0; PARTS.len()],
             nested: 0,
             empty: 0,
+            levels: levels::Judge::new(seed, levels::FAULTS),
             table: Table::default(),
             due: Vec::new(),
             out: Vec::new(),
@@ -93,9 +104,9 @@ impl Judge {
     /// Sizing and writing answer what is due, and a refusal touches nothing.
     fn hold(&mut self) {
         self.all += 1;
-        let refused = domain::refusal(&self.table);
+        let Checked { refusal, deepest } = domain::check(Limit::HIGHEST, &self.table);
         self.due.clear();
-        let due = match refused {
+        let due = match refusal {
             Some(refusal) => refusal,
             None => {
                 forms::write(&self.table, &mut AsWritten, &mut self.due);
@@ -106,12 +117,13 @@ impl Judge {
             }
         };
         self.numbers[due.number as usize] += 1;
-        self.of_arrays(&due);
+        self.count_part(&due);
         self.nested += self.table.is_nested() as u64;
         self.empty += self.table.has_empty_array() as u64;
         self.out.clear();
         self.out.resize(due.length as usize + 8, PATTERN);
-        let (sized, written) = (ours::size(&self.table), ours::write(&self.table, &mut self.out));
+        let sized = ours::size(Limit::HIGHEST, &self.table);
+        let written = ours::write(Limit::HIGHEST, &self.table, &mut self.out);
         let (front, behind) = self.out.split_at(due.length as usize);
         let left = behind.iter().all(|&byte| byte == PATTERN);
         let right = sized == due && written == due && left && (due.number != 0 || front == &self.due[..]);
@@ -119,29 +131,36 @@ impl Judge {
             let table = &self.table;
             self.findings.note("a table with faults", table.words.len(), || format!("`{table}`: {sized}, due is {due}"));
         }
+        self.levels.table(&self.table, &self.due, deepest);
     }
 
-    /// Counts what is refused of arrays.
-    fn of_arrays(&mut self, due: &Told) {
+    /// Counts parts of what is refused.
+    fn count_part(&mut self, due: &Told) {
+        if due.number == 1 && self.table.words.len() % 2 == 1 {
+            self.parts[0] += 1;
+        }
         let row = 2 * due.place as usize;
         let Some(&[kind, number]) = self.table.words.get(row..row + 2) else { return };
         let array = kind == Kind::Array as u64;
         let which = match (due.number, kind_in(number), count_in(number)) {
-            (4, told, _) if array && told == Kind::Null as u64 => 1,
-            (4, ..) => 0,
-            (5, _, count) if array && count > MOST => 2,
-            (5, 0, 1..) if array => 3,
-            (5, 0, _) if array => 4,
-            (5, ..=0xff, _) if array => 5,
-            (5, ..) if array => 6,
+            (4, told, _) if array && told == Kind::Null as u64 => 2,
+            (4, ..) => 1,
+            (5, _, count) if array && count > MOST => 3,
+            (5, 0, 1..) if array => 4,
+            (5, 0, _) if array => 5,
+            (5, ..=0xff, _) if array => 6,
+            (5, ..) if array => 7,
             _ => return,
         };
-        self.of_arrays[which] += 1;
+        self.parts[which] += 1;
     }
 
     /// A random table, mostly with a fault or two.
     fn make(&mut self) {
         const LONG: usize = 2_000;
+        if self.random.once_in(LONGEST) {
+            return self.longest();
+        }
         if self.random.once_in(12) {
             return self.deep();
         }
@@ -156,11 +175,24 @@ impl Judge {
         }
     }
 
-    /// Compounds, one in the other, to about the last level or beyond it.
+    /// A text in up to 33 lists, all of them as many bytes as a value may have, or one more.
+    fn longest(&mut self) {
+        self.table.clear();
+        let lists = self.random.below(HIGHEST as usize + 2);
+        for _ in 0..lists {
+            self.table.row(Kind::List, 1);
+        }
+        // each list has nine bytes before its one value, the text has five
+        let text = MOST as usize + self.random.below(2) - 9 * lists - 5;
+        self.table.worded(Kind::Binary, &vec![PATTERN; text]);
+    }
+
+    /// Compounds, one in the other, to about the last level of a limit or beyond it.
     fn deep(&mut self) {
         self.table.clear();
         let kinds = self.random.of(&[&[Kind::List][..], &[Kind::Array], &[Kind::List, Kind::Array], &[Kind::Array, Kind::Map]]);
-        let levels = self.random.within(LEVELS as usize - 3, LEVELS as usize + 2);
+        let last = Limit::last_level(&mut self.random) as usize;
+        let levels = self.random.within(last.saturating_sub(3), last + 2);
         let last = self.random.of(&[Kind::Null, Kind::Ubyte, Kind::List, Kind::Array, Kind::Map, Kind::Described]);
         for level in 0..levels {
             let kind = kinds[level % kinds.len()];
@@ -240,7 +272,12 @@ impl Judge {
         }
     }
 
-    pub fn print(&self) {
+    /// Prints what came, and notes what never came.
+    pub fn conclude(&mut self) {
+        for number in 0..=LAST {
+            self.findings.need(&format!("of tables with faults the answer {number}"), self.numbers[number]);
+        }
+        PARTS.iter().zip(self.parts).for_each(|((_, what), count)| self.findings.need(what, count));
         let of = |what: &str, count| vec![what.to_string(), report::number(count)];
         let mut rows = vec![
             of("tables", self.all),
@@ -248,12 +285,12 @@ impl Judge {
             of("with empty arrays", self.empty),
             of("accepted", self.numbers[0]),
         ];
-        for number in 1..=6 {
+        for number in 1..=LAST {
             rows.push(of(&format!("refused with {number}"), self.numbers[number]));
-            let parts = OF_ARRAYS.iter().zip(self.of_arrays).filter(|((refusal, _), _)| *refusal == number);
+            let parts = PARTS.iter().zip(self.parts).filter(|((refusal, _), _)| *refusal == number);
             rows.extend(parts.map(|((_, what), count)| of(&format!("of these {what}"), count)));
         }
         report::table(1, &["tables with faults", "number"], &rows);
-        println!("For each: sizing and writing answer what the judge's own checks answer, number and place, and a refusal leaves the output as it was.\n");
+        println!("For each, with the limit 32: sizing and writing answer what the judge's own checks answer, number and place, and a refusal leaves the output as it was.\n");
     }
 }

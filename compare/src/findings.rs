@@ -24,6 +24,13 @@ impl Findings {
         }
     }
 
+    /// Notes a class of cases that never came, and so was not tried.
+    pub fn need(&mut self, class: &str, count: u64) {
+        if count == 0 {
+            self.note(format!("never met: {class}"), 0, String::new);
+        }
+    }
+
     /// Takes in what was found elsewhere.
     pub fn add(&mut self, other: Findings) {
         for (what, found) in other.found {

@@ -1,7 +1,7 @@
 //! Random tables, all of them such that our writer accepts them: all kinds, with a liking for edges.
 
 use crate::{
-    domain::LEVELS,
+    limit::HIGHEST,
     random::Random,
     table::{Kind, Table},
 };
@@ -44,7 +44,7 @@ impl Generator {
                 self.value(1, Spot::Any);
             }
             80..=87 => {
-                let deepest = if self.random.once_in(3) { LEVELS } else { self.random.within(2, LEVELS as usize) as u32 };
+                let deepest = if self.random.once_in(3) { HIGHEST } else { self.random.within(2, HIGHEST as usize) as u32 };
                 self.chain(1, deepest, Spot::Any);
             }
             88..=93 => self.edge_compound(1, Spot::Any),
@@ -64,7 +64,7 @@ impl Generator {
 
     fn value(&mut self, level: u32, spot: Spot) {
         let spot = if self.equal { spot } else { Spot::Any };
-        let last = level == LEVELS;
+        let last = level == HIGHEST;
         match self.random.below(20) {
             0..=3 if !last => self.compound(Kind::List, level),
             4..=5 if !last => self.compound(Kind::Map, level),
@@ -277,7 +277,7 @@ impl Generator {
 
     fn compound_element(&mut self, kind: Kind, level: u32) {
         match (self.random.below(12), kind) {
-            _ if level == LEVELS => self.empty(kind),
+            _ if level == HIGHEST => self.empty(kind),
             (0, _) | (1..=2, Kind::List | Kind::Map) => self.empty(kind),
             (3, _) if self.random.once_in(8) => self.edge_of(kind, level),
             (4..=7, Kind::Array) => self.compound_array(level),
@@ -323,13 +323,13 @@ impl Generator {
     /// A list, map or array with a body of 252 to 258 bytes.
     fn edge_compound(&mut self, level: u32, spot: Spot) {
         let body = self.random.within(252, 258);
-        if level == LEVELS {
+        if level == HIGHEST {
             return self.leaf_row(spot);
         }
         let forms = match spot {
             Spot::Key if self.equal => 3,
             _ if self.equal => 5,
-            _ if level + 1 == LEVELS => 6,
+            _ if level + 1 == HIGHEST => 6,
             _ => 7,
         };
         let form = self.random.below(forms);
@@ -342,7 +342,7 @@ impl Generator {
         let form = match kind {
             Kind::List => self.random.of(&[0, 1, 5]),
             Kind::Map => 2,
-            _ if level + 1 == LEVELS => self.random.of(&[3, 4]),
+            _ if level + 1 == HIGHEST => self.random.of(&[3, 4]),
             _ => self.random.of(&[3, 4, 6]),
         };
         self.edge_form(form, body);

@@ -13,6 +13,8 @@ mod faults;
 mod findings;
 mod forms;
 mod generate;
+mod levels;
+mod limit;
 mod original;
 mod ours;
 mod peers;
@@ -63,10 +65,10 @@ fn run(part: &str, given: &Arguments) -> bool {
     let seed = given.seed;
     let many = |quick, whole| if given.quick { quick } else { whole };
     match part {
-        "equal" => equal::run(&equal::Plan { seed, random: many(1_000_000, 10_000_000), rows: 5 }).is_empty(),
+        "equal" => equal::run(&equal::Plan { seed, random: many(750_000, 10_000_000), rows: 5 }).is_empty(),
         "differences" => differences::run(),
         "proton" => peers::run(&peers::Plan { seed, random: many(300_000, 2_000_000) }),
-        "bytes" => bytes::run(&bytes::Plan { seed, runs: many(1_000_000, 10_000_000) }).is_empty(),
+        "bytes" => bytes::run(&bytes::Plan { seed, runs: many(850_000, 10_000_000) }).is_empty(),
         _ => timing::run(&timing::Plan { rounds: many(15, 151) as usize, picture: given.picture.clone() }),
     }
 }

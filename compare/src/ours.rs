@@ -1,7 +1,6 @@
 //! The proved library as it is called from C, with everything that a call tells.
 
-use crate::table::Table;
-use afsungar::raw;
+use crate::{limit::Limit, table::Table};
 use std::fmt;
 
 /// All that a call hands back. What a call does not tell stays 0.
@@ -27,11 +26,11 @@ impl Told {
         self.number == 0
     }
 
-    /// On success the place is 0; on a refusal, one of the fourteen, every length and count is.
+    /// On success the place is 0; on a refusal, one of the fifteen, every length and count is.
     pub fn is_fair(&self) -> bool {
         match self.number {
             0 => self.place == 0,
-            1..=14 => *self == Told::refusal(self.number, self.place),
+            1..=15 => *self == Told::refusal(self.number, self.place),
             _ => false,
         }
     }
@@ -56,68 +55,114 @@ const STALE: u64 = 0xdead_beef_dead_beef;
 pub const PATTERN: u8 = 0xa5;
 pub const PATTERN_WORD: u64 = u64::from_ne_bytes([PATTERN; 8]);
 
-pub fn size(table: &Table) -> Told {
-    let Table { words, text } = table;
+/// Calls a function of the library in one of its two forms, which differ in the limit before all else that is lent. They are declared here, after
+/// docs/FORMAT.md, 6 and 7: the declarations of the Rust crate are part of what is compared.
+macro_rules! call {
+    ($limit:expr, $plain:ident, $within:ident, $($name:ident: $type:ty = $lent:expr),* $(,)?) => {{
+        extern "C" {
+            fn $plain($($name: $type),*) -> u64;
+            fn $within(limit: u64, $($name: $type),*) -> u64;
+        }
+        // SAFETY: pointers and lengths are those of slices, and what is written to is lent to the call alone.
+        unsafe {
+            match $limit {
+                Limit::Plain => $plain($($lent),*),
+                Limit::Within(levels) => $within(levels, $($lent),*),
+            }
+        }
+    }};
+}
+
+pub fn size(limit: Limit, table: &Table) -> Told {
     let (mut place, mut length) = (STALE, STALE);
-    // SAFETY: here and below, pointers and lengths are those of slices, and what is written to is lent to the call alone.
-    let number = unsafe { raw::afsungar_size(words.as_ptr(), words.len(), text.as_ptr(), text.len(), &mut place, &mut length) };
+    let number = call!(
+        limit,
+        afsungar_size,
+        afsungar_size_within,
+        words: *const u64 = table.words.as_ptr(),
+        words_len: usize = table.words.len(),
+        text: *const u8 = table.text.as_ptr(),
+        text_len: usize = table.text.len(),
+        place: &mut u64 = &mut place,
+        length: &mut u64 = &mut length,
+    );
     Told { number, place, length, ..Told::default() }
 }
 
-pub fn write(table: &Table, out: &mut [u8]) -> Told {
-    let Table { words, text } = table;
+pub fn write(limit: Limit, table: &Table, out: &mut [u8]) -> Told {
     let (mut place, mut length) = (STALE, STALE);
-    let number = unsafe {
-        raw::afsungar_write(
-            words.as_ptr(),
-            words.len(),
-            text.as_ptr(),
-            text.len(),
-            out.as_mut_ptr(),
-            out.len(),
-            &mut place,
-            &mut length,
-        )
-    };
+    let number = call!(
+        limit,
+        afsungar_write,
+        afsungar_write_within,
+        words: *const u64 = table.words.as_ptr(),
+        words_len: usize = table.words.len(),
+        text: *const u8 = table.text.as_ptr(),
+        text_len: usize = table.text.len(),
+        out: *mut u8 = out.as_mut_ptr(),
+        out_len: usize = out.len(),
+        place: &mut u64 = &mut place,
+        length: &mut u64 = &mut length,
+    );
     Told { number, place, length, ..Told::default() }
 }
 
-pub fn measure(bytes: &[u8]) -> Told {
+pub fn measure(limit: Limit, bytes: &[u8]) -> Told {
     let (mut place, mut length, mut rows, mut text) = (STALE, STALE, STALE, STALE);
-    let number = unsafe { raw::afsungar_measure(bytes.as_ptr(), bytes.len(), &mut place, &mut length, &mut rows, &mut text) };
+    let number = call!(
+        limit,
+        afsungar_measure,
+        afsungar_measure_within,
+        bytes: *const u8 = bytes.as_ptr(),
+        len: usize = bytes.len(),
+        place: &mut u64 = &mut place,
+        length: &mut u64 = &mut length,
+        rows: &mut u64 = &mut rows,
+        text: &mut u64 = &mut text,
+    );
     Told { number, place, length, rows, text }
 }
 
-pub fn read(bytes: &[u8], words: &mut [u64], text: &mut [u8]) -> Told {
+pub fn read(limit: Limit, bytes: &[u8], words: &mut [u64], text: &mut [u8]) -> Told {
     let (mut place, mut length, mut rows, mut used) = (STALE, STALE, STALE, STALE);
-    let number = unsafe {
-        raw::afsungar_read(
-            bytes.as_ptr(),
-            bytes.len(),
-            words.as_mut_ptr(),
-            words.len(),
-            text.as_mut_ptr(),
-            text.len(),
-            &mut place,
-            &mut length,
-            &mut rows,
-            &mut used,
-        )
-    };
+    let number = call!(
+        limit,
+        afsungar_read,
+        afsungar_read_within,
+        bytes: *const u8 = bytes.as_ptr(),
+        len: usize = bytes.len(),
+        words: *mut u64 = words.as_mut_ptr(),
+        words_len: usize = words.len(),
+        text: *mut u8 = text.as_mut_ptr(),
+        text_len: usize = text.len(),
+        place: &mut u64 = &mut place,
+        length: &mut u64 = &mut length,
+        rows: &mut u64 = &mut rows,
+        text_used: &mut u64 = &mut used,
+    );
     Told { number, place, length, rows, text: used }
 }
 
 /// A step of the walker from `at`, and where it then is.
-pub fn step(bytes: &[u8], from: u64) -> (Told, u64) {
+pub fn step(limit: Limit, bytes: &[u8], from: u64) -> (Told, u64) {
     let (mut at, mut place, mut length) = (from, STALE, STALE);
-    let number = unsafe { raw::afsungar_step(bytes.as_ptr(), bytes.len(), &mut at, &mut place, &mut length) };
+    let number = call!(
+        limit,
+        afsungar_step,
+        afsungar_step_within,
+        bytes: *const u8 = bytes.as_ptr(),
+        len: usize = bytes.len(),
+        at: &mut u64 = &mut at,
+        place: &mut u64 = &mut place,
+        length: &mut u64 = &mut length,
+    );
     (Told { number, place, length, ..Told::default() }, at)
 }
 
 /// Reads into memory that is just large enough. A refusal gives no table.
-pub fn read_whole(bytes: &[u8]) -> (Told, Table) {
-    let extent = measure(bytes);
+pub fn read_whole(limit: Limit, bytes: &[u8]) -> (Told, Table) {
+    let extent = measure(limit, bytes);
     let mut table = Table { words: vec![0; 2 * extent.rows as usize], text: vec![0; extent.text as usize] };
-    let told = read(bytes, &mut table.words, &mut table.text);
+    let told = read(limit, bytes, &mut table.words, &mut table.text);
     (told, table)
 }

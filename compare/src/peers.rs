@@ -6,6 +6,7 @@ use crate::{
     equal::by_kind,
     findings::Findings,
     generate::Generator,
+    limit::Limit,
     ours::{self, Told},
     proton::{Data, NODES},
     report, small,
@@ -124,8 +125,8 @@ fn show(data: &mut Data) {
             for &(kind, number) in *rows {
                 table.row(kind, number);
             }
-            let mut ours = vec![0; ours::size(&table).length as usize];
-            ours::write(&table, &mut ours);
+            let mut ours = vec![0; ours::size(Limit::HIGHEST, &table).length as usize];
+            ours::write(Limit::HIGHEST, &table, &mut ours);
             let mut theirs = vec![0; 256];
             let length = data.put(&table).and_then(|()| data.encode(&mut theirs)).unwrap_or(0);
             theirs.truncate(length);
@@ -150,7 +151,7 @@ fn reads(data: &mut Data, bytes: &[u8]) -> String {
 }
 
 fn we_read(bytes: &[u8]) -> String {
-    let (told, table) = ours::read_whole(bytes);
+    let (told, table) = ours::read_whole(Limit::HIGHEST, bytes);
     match told.number {
         0 => report::code(table),
         number => format!("{number} at {}", told.place),
@@ -225,7 +226,7 @@ impl Judge {
     }
 
     fn try_table(&mut self, table: &Table) {
-        let told = ours::size(table);
+        let told = ours::size(Limit::HIGHEST, table);
         if table.rows() > NODES || !told.is_success() {
             return;
         }
@@ -236,7 +237,7 @@ impl Judge {
         }
         self.tables += 1;
         self.ours.resize(told.length as usize, 0);
-        ours::write(table, &mut self.ours);
+        ours::write(Limit::HIGHEST, table, &mut self.ours);
         let bytes = std::mem::take(&mut self.ours);
         let same = self.same_value(&bytes, table);
         self.read_by += same as u64;
@@ -282,7 +283,7 @@ impl Judge {
         };
         let bytes = &self.theirs[..length];
         self.same_bytes += (bytes == ours) as u64;
-        let (told, back) = ours::read_whole(bytes);
+        let (told, back) = ours::read_whole(Limit::HIGHEST, bytes);
         if told == Told::success(length, table.rows(), table.text.len()) && back == *table {
             self.read_from += 1;
         } else {
@@ -293,7 +294,7 @@ impl Judge {
     /// Both read the same bytes.
     fn try_bytes(&mut self, bytes: &[u8]) {
         self.runs += 1;
-        let (told, table) = ours::read_whole(bytes);
+        let (told, table) = ours::read_whole(Limit::HIGHEST, bytes);
         if told.is_success() {
             self.agree += self.same_value(&bytes[..told.length as usize], &table) as u64;
             return;

@@ -1,7 +1,7 @@
 //! The judge's own reader, after docs/FORMAT.md, 4 and 5.3. It shares nothing with ours.
 
 use crate::{
-    domain::LEVELS,
+    limit::Limit,
     ours::Told,
     table::{Kind, Table},
 };
@@ -19,15 +19,28 @@ enum Layout {
     Described,
 }
 
-/// The value at the start of the bytes and its length, or the refusal.
-pub fn read(bytes: &[u8]) -> Result<(Table, usize), Told> {
-    let mut reader = Reader { bytes, table: Table::default() };
-    let length = reader.value(0, bytes.len(), 1, None)?;
-    Ok((reader.table, length))
+/// What bytes are read to.
+pub struct Found {
+    /// The value at their start and its length, or the refusal.
+    pub value: Result<(Table, usize), Told>,
+    /// The deepest level at which a value was looked for.
+    pub deepest: u32,
+}
+
+pub fn read(limit: Limit, bytes: &[u8]) -> Found {
+    let mut reader = Reader { bytes, levels: 0, deepest: 0, table: Table::default() };
+    let length = limit.levels().and_then(|levels| {
+        reader.levels = levels;
+        reader.value(0, bytes.len(), 1, None)
+    });
+    Found { value: length.map(|length| (reader.table, length)), deepest: reader.deepest }
 }
 
 struct Reader<'a> {
     bytes: &'a [u8],
+    /// The level limit.
+    levels: u32,
+    deepest: u32,
     table: Table,
 }
 
@@ -35,7 +48,8 @@ struct Reader<'a> {
 impl<'a> Reader<'a> {
     fn value(&mut self, at: usize, end: usize, level: u32, outer: Option<usize>) -> Result<usize, Told> {
         let place = outer.unwrap_or(at);
-        need(level <= LEVELS, 3, place)?;
+        self.deepest = self.deepest.max(level);
+        need(level <= self.levels, 3, place)?;
         need(at < end, 9, place)?;
         self.payload(self.bytes[at], place, at + 1, end, level, outer)
     }
@@ -77,7 +91,10 @@ impl<'a> Reader<'a> {
 
     /// The row of an array, which tells the kind of the element code or, without one, none; and its body. All that it holds is refused at one place.
     fn elements(&mut self, count: u64, place: usize, at: usize, end: usize, level: u32) -> Result<usize, Told> {
-        need(count == 0 || level < LEVELS, 3, place)?;
+        if count > 0 {
+            self.deepest = self.deepest.max(level + 1);
+            need(level < self.levels, 3, place)?;
+        }
         if at == end {
             need(count == 0, 9, place)?;
             self.table.row(Kind::Array, 0);

@@ -1,7 +1,7 @@
 //! A sample of the ported crate's answers, as stored cases (crates/vectors/data/README.md): tables inside the domain of equality,
 //! each with the bytes that the crate writes for it and an output of just that length.
 
-use crate::{domain, generate::Generator, original, small, table::Table};
+use crate::{domain, generate::Generator, limit::HIGHEST, original, small, table::Table};
 
 /// Cases of random tables, the bytes that the longest may have, and one in how many of the small tables is taken.
 const RANDOM: usize = 600;
@@ -29,12 +29,13 @@ pub fn print(seed: u64) {
     });
 }
 
-/// The line of a table, if its bytes are not too many.
+/// The line of a table within the highest limit, if its bytes are not too many.
 fn case(table: &Table) -> Option<String> {
     let mut bytes = Vec::new();
     original::write(table, &mut bytes).ok()?;
     let rows: Vec<_> = table.words.chunks(2).map(|row| format!("{:02x}:{}", row[0], row[1])).collect();
-    (bytes.len() <= LONGEST).then(|| format!("{} {} {} ={}", rows.join(","), field(&table.text), bytes.len(), digits(&bytes)))
+    let fields = [rows.join(","), field(&table.text), bytes.len().to_string(), format!("={}", digits(&bytes))];
+    (bytes.len() <= LONGEST).then(|| format!("{HIGHEST} {}", fields.join(" ")))
 }
 
 /// A field of bytes; `-` where there are none.

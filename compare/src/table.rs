@@ -48,7 +48,7 @@ impl Kind {
     ];
 
     pub fn of(word: u64) -> Option<Kind> {
-        Kind::ALL.into_iter().find(|&kind| kind as u64 == word)
+        KINDS.get(word as usize).copied().flatten()
     }
 
     /// The three kinds of elements with children.
@@ -202,11 +202,15 @@ impl Table {
 /// The row of an empty array that tells no kind: the reader gives it where there is no element code, and the writer refuses it.
 const UNTOLD: [u64; 2] = [Array as u64, 0];
 
-/// As in docs/FORMAT.md: `d1:2 b3:1 70:2, text 76`.
+/// As in docs/FORMAT.md: `d1:2 b3:1 70:2, text 76`. A lone last word is shown as `+40`.
 impl fmt::Display for Table {
     fn fmt(&self, f: &mut fmt::Formatter<'_>) -> fmt::Result {
         const MOST: usize = 24;
-        let rows: Vec<_> = self.words.chunks(2).take(MOST).map(|row| shown(row[0], row[1])).collect();
+        let row = |row: &[u64]| match row {
+            [kind, number] => shown(*kind, *number),
+            lone => format!("+{:02x}", lone[0]),
+        };
+        let rows: Vec<_> = self.words.chunks(2).take(MOST).map(row).collect();
         write!(f, "{}", rows.join(" "))?;
         if self.rows() > MOST {
             write!(f, " .. ({} rows)", self.rows())?;
@@ -281,7 +285,7 @@ impl<'a> Iterator for Rows<'a> {
     }
 }
 
-/// `Kind::of` for a byte, by looking it up.
+/// The kind of each byte that is one.
 static KINDS: [Option<Kind>; 256] = {
     let mut kinds = [None; 256];
     let mut i = 0;

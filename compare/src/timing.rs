@@ -3,6 +3,7 @@
 use crate::{
     domain,
     equal::depth,
+    limit::Limit,
     original, ours, picture,
     picture::{Line, Panel},
     proton::Data,
@@ -38,7 +39,7 @@ pub fn run(plan: &Plan) -> bool {
         processor()
     );
     println!(
-        "{} rows but for the message. Ours: `afsungar_write` (which sizes first), `afsungar_read`, `afsungar_measure`. The crate",
+        "{} rows but for the message. Ours: `afsungar_write` (which sizes first), `afsungar_read`, `afsungar_measure`, with the limit 32 where there are more than 16 levels. The crate",
         report::number(shapes::ROWS as u64)
     );
     println!("writes the same rows to a `Vec` that is kept; for arrays of lists and arrays its bytes are others than ours (docs/DIFFERENCES.md, 7).");
@@ -209,13 +210,14 @@ fn by_depth(plan: &Plan) -> bool {
 
 /// Whether the crate writes what we write, inside the domain of equality, and Proton and we read that to the table.
 fn same(name: &str, table: &Table) -> bool {
-    let mut bytes = vec![0; ours::size(table).length as usize];
+    let limit = Limit::for_depth(depth(table));
+    let mut bytes = vec![0; ours::size(limit, table).length as usize];
     let mut theirs = Vec::new();
     let mut data = Data::new();
-    let same = ours::write(table, &mut bytes).is_success()
+    let same = ours::write(limit, table, &mut bytes).is_success()
         && original::write(table, &mut theirs).is_ok()
         && (theirs == bytes || !domain::is_equal(table))
-        && ours::read_whole(&bytes).1 == *table
+        && ours::read_whole(limit, &bytes).1 == *table
         && data.decode(&bytes) == Ok(bytes.len())
         && data.table().as_ref() == Some(table);
     if !same {
@@ -249,24 +251,24 @@ const WORKS: usize = 7;
 
 /// So many rounds of all that is done with a table, each work in its turn; the ns that each took go to `taken`.
 fn sample(table: &Table, rounds: usize, taken: &mut [Vec<f64>; WORKS]) {
-    let Table { words, text } = table;
-    let mut bytes = vec![0; ours::size(table).length as usize];
-    ours::write(table, &mut bytes);
+    let limit = Limit::for_depth(depth(table));
+    let mut bytes = vec![0; ours::size(limit, table).length as usize];
+    ours::write(limit, table, &mut bytes);
     let (mut out, mut theirs, mut proton_out) = (bytes.clone(), Vec::with_capacity(bytes.len()), vec![0; 10 * bytes.len() + 64]);
-    let (mut row_room, mut text_room) = (vec![0; words.len()], vec![0; text.len()]);
+    let (mut row_room, mut text_room) = (vec![0; table.words.len()], vec![0; table.text.len()]);
     let (mut tree, mut read_tree) = (Data::new(), Data::new());
     tree.put(table).expect("Proton takes the table");
 
     let mut works: [Box<dyn FnMut() + '_>; WORKS] = [
-        Box::new(|| keep(afsungar::write(black_box(words), black_box(text), &mut out))),
-        Box::new(|| keep(afsungar::size(black_box(words), black_box(text)))),
+        Box::new(|| keep(ours::write(limit, black_box(table), &mut out))),
+        Box::new(|| keep(ours::size(limit, black_box(table)))),
         Box::new(|| {
             theirs.clear();
             keep(original::write(black_box(table), &mut theirs));
         }),
         Box::new(|| keep(tree.encode(&mut proton_out))),
-        Box::new(|| keep(afsungar::read(black_box(&bytes), &mut row_room, &mut text_room))),
-        Box::new(|| keep(afsungar::measure(black_box(&bytes)))),
+        Box::new(|| keep(ours::read(limit, black_box(&bytes), &mut row_room, &mut text_room))),
+        Box::new(|| keep(ours::measure(limit, black_box(&bytes)))),
         Box::new(|| keep(read_tree.decode(black_box(&bytes)))),
     ];
     const SHORTEST: f64 = 200_000.0; // of a turn, in ns
