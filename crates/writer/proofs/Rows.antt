@@ -25,7 +25,7 @@ use Rattle.writer.specs.Heads.{enclosure, head, itemHead, itemWidth, bod
 use Rattle.writer.specs.Marks.{markWidth, marks, marks*}
 use Rattle.writer.specs.Sizing.{sizeIn}
 use Rattle.writer.specs.Direct.{isListOrMap, isArrayed}
-use Rattle.writer.specs.Filling.{fresh, beyond, kindAt, numberAt, lettersAt, markAt, ownAt, Ready, Stepped, Pending, Filled, valueOf, elementOf, One, Done, Elements, Lasts, Rows, Fillable}
+use Rattle.writer.specs.Filling.{fresh, beyond, kindAt, numberAt, lettersAt, markAt, ownAt, Ready, Stepped, Pending, Filled, valueOf, elementOf, One, Done, Elements, Lasts, Rows, Left, Going, going, Run, SomeLeft, Fillable}
 use Rattle.writer.specs.declared.filling.Cursor.{Cursor}
 use Rattle.writer.proofs.Tabled.{allKinds, of-kind, other}
 use Rattle.writer.proofs.Bodies.{enclosed-width, item-wide, empty-body, kind-small}
@@ -435,18 +435,6 @@ array-in m {words = words} {text = x} {out = out} {c = c} {v = node k n t cs} g 
 
 -- Loops: what is left comes to what was due
 
--- values up to `last`, and elements behind them up to `end`: lists, maps and arrays, or scalars
-pub record Left (words text goal : List ℕ) (stop : Cursor) (end : ℕ) (boxed : Bool) (last : ℕ) (out : List ℕ) (c : Cursor) (kind : ℕ) (us vs : Trees) : Type 0 where
-  pub pending : Pending words text out c kind us vs
-  pub nested : leb 0xd0 kind ≡ boxed
-  pub lasts : Lasts last c us
-  pub ends : end ≡ c .at + length (encode* us ++ payloads vs)
-  pub bytes : sets out (c .at) (encode* us ++ payloads vs) ≡ goal
-  pub place : beyond c us vs ≡ stop
-
-pub data Going (words text goal : List ℕ) (stop : Cursor) (end : ℕ) (boxed : Bool) (last : ℕ) (out : List ℕ) (c : Cursor) : Type 0 where
-  going : {kind : ℕ} {us vs : Trees} → Left words text goal stop end boxed last out c kind us vs → Going words text goal stop end boxed last out c
-
 -- at the start
 pub rows-due : {words text out : List ℕ} {end last : ℕ} {c : Cursor} {k : ℕ} {us vs : Trees} → Rows words text out end last c k us vs → Going words text (sets out (c .at) (encode* us ++ payloads vs)) (beyond c us vs) end true last out c
 rows-due {k = k} d = going (record { pending = d .pending; nested = le-leb 0xd0 k (d .nested); lasts = d .lasts; ends = d .ends; bytes = refl; place = refl })
@@ -489,7 +477,7 @@ done-less values (node k n t cs) d = rw (d .place) (omega arith)
 done-less elements (node k n t cs) d = rw (d .place) (omega arith)
 
 -- before the end of the values there is a value
-pub record ValueTurn (words text goal : List ℕ) (stop : Cursor) (end : ℕ) (boxed : Bool) (last : ℕ) (out : List ℕ) (c : Cursor) : Type 0 where
+record ValueTurn (words text goal : List ℕ) (stop : Cursor) (end : ℕ) (boxed : Bool) (last : ℕ) (out : List ℕ) (c : Cursor) : Type 0 where
   pub ready : Ready values words text out c
   pub next : (a : List ℕ) (r : Cursor) → Stepped values words text out c a r → Going words text goal stop end boxed last a r
 
@@ -539,7 +527,7 @@ module _ {words text goal : List ℕ} {stop : Cursor} {end : ℕ} {boxed : Bool}
     pub row-there : Going words text goal stop end boxed last out c → c .at < end → 2 * (c .row) + 2 ≤ length words
     row-there g h = let o = whole-turn g h (leb last (c .at)) refl in one-ready (modeIs (leb last (c .at))) (o .tree) (o .one) .row
 
-    pub value-turn : Going words text goal stop end boxed last out c → c .at < last → isArrayed (styleOf (kindAt words c)) ≡ false → ValueTurn words text goal stop end boxed last out c
+    value-turn : Going words text goal stop end boxed last out c → c .at < last → isArrayed (styleOf (kindAt words c)) ≡ false → ValueTurn words text goal stop end boxed last out c
     unfolding one
     value-turn (going {us = none} d) h i = absurd (omega (arith, d .lasts))
     value-turn (going {us = more (node k n t cs) us} d) h i =
@@ -571,10 +559,44 @@ module _ {words text goal : List ℕ} {stop : Cursor} {end : ℕ} {boxed : Bool}
     finished (going {us = none} {vs = more v vs} d) h = absurd (omega (arith, d .ends, element-long (d .pending)))
     finished (going {us = none} {vs = none} d) h = (d .bytes, same-place (omega arith) (omega arith) (omega arith) (omega arith) ∙ d .place)
 
+    -- where a value is due, the end is not reached
+    pub last-first : Going words text goal stop end boxed last out c → c .at < last → c .at < end
+    last-first (going {us = none} d) h = absurd (omega (arith, d .lasts))
+    last-first (going {us = more v us} {vs = vs} d) h = omega (arith, d .ends, value-long (d .pending), length-append (encode* (more v us)) (payloads vs))
+
     -- the values end in the output
     pub last-room : Going words text goal stop end boxed last out c → last ≤ length out
     last-room (going {us = none} d) = omega (arith, d .lasts, all-room (d .pending))
     last-room (going {us = more v us} {vs = vs} d) = omega (arith, d .lasts, all-room (d .pending), length-append (encode* (more v us)) (payloads vs))
+
+-- values one after another, up to an array: nothing is written, or some rows are, and whatever was due at the start is due from there on
+pub record Ran (words text out₀ : List ℕ) (last : ℕ) (c₀ : Cursor) (out : List ℕ) (c : Cursor) : Type 0 where
+  pub moved : (c₀ ≡ c) ⊎ (c₀ .row < c .row)
+  pub left : (goal : List ℕ) (stop : Cursor) (end : ℕ) → Going words text goal stop end true last out₀ c₀ → Going words text goal stop end true last out c
+
+pub ran-none : {words text out : List ℕ} {last : ℕ} {c : Cursor} → Ran words text out last c out c
+ran-none = record { moved = inl refl; left = λ goal stop end g. g }
+
+module _ {words text out₀ : List ℕ} {last : ℕ} {c₀ : Cursor} {out : List ℕ} {c : Cursor} (n : Ran words text out₀ last c₀ out c) where
+  pub ran-row : SomeLeft words text out₀ last c₀ → c .at < last → 2 * (c .row) + 2 ≤ length words
+  ran-row s h = let g = n .left (s .0) (s .1) (s .2) (s .3) in row-there g (last-first g h)
+
+  pub ran-ready : SomeLeft words text out₀ last c₀ → c .at < last → isArrayed (styleOf (kindAt words c)) ≡ false → Ready values words text out c
+  ran-ready s h i = value-turn (n .left (s .0) (s .1) (s .2) (s .3)) h i .ready
+
+  pub ran-on : c .at < last → isArrayed (styleOf (kindAt words c)) ≡ false → {a : List ℕ} {r : Cursor} → Stepped values words text out c a r → Ran words text out₀ last c₀ a r
+  ran-on h i {a = a} {r = r} t = record {
+    moved = inr (⊎-elim (λ e. rw e (omega (arith, ap (λ z. z .row) (t .place)))) (λ e. omega (arith, ap (λ z. z .row) (t .place))) (n .moved));
+    left = λ goal stop end g. value-turn (n .left goal stop end g) h i .next a r t;
+  }
+
+  -- it ends where no value is due, or at an array
+  pub ran-end : (c .at < last → kindAt words c ≡ 0xf0) → Run words text out₀ last c₀ out c
+  ran-end f = record {
+    onward = ⊎-elim (λ e. rw e (omega arith)) (λ e. omega arith) (n .moved);
+    moved = λ h i. ⊎-elim (λ e. absurd (i (rw e (f (rw e at h))))) (λ e. e) (n .moved);
+    left = n .left;
+  }
 
 -- scalars one after another: they have no marks, and no children
 pub plain-turn : {words text goal : List ℕ} {stop : Cursor} {end : ℕ} {out : List ℕ} {c : Cursor} → Going words text goal stop end false (c .at) out c → c .at < end
@@ -612,6 +634,28 @@ begin words letters out n mark v f =
       lasts = rw append-nil (omega (arith, f .size));
       ends = rw b (omega (arith, f .size));
     }
+
+-- what is left of it is rows to be filled, and these come to all of it
+pub record Again (words text goal : List ℕ) (stop : Cursor) (end last : ℕ) (out : List ℕ) (c : Cursor) : Type 0 where
+  pub kind : ℕ
+  pub us : Trees
+  pub vs : Trees
+  pub due : Rows words text out end last c kind us vs
+  pub filled : (a : List ℕ) (r : Cursor) → Filled out c us vs a r → (a ≡ goal) × (r ≡ stop)
+
+again : {words text goal : List ℕ} {stop : Cursor} {end last : ℕ} {out : List ℕ} {c : Cursor} → Going words text goal stop end true last out c → Again words text goal stop end last out c
+again (going {kind = k} {us = us} {vs = vs} d) = record {
+  kind = k;
+  us = us;
+  vs = vs;
+  due = record { pending = d .pending; nested = leb-true 0xd0 k (d .nested); lasts = d .lasts; ends = d .ends };
+  filled = λ a r f. (f .bytes ∙ d .bytes, f .place ∙ d .place);
+}
+
+-- a table of which some rows are written
+pub table-again : (words letters out : List ℕ) (n mark : ℕ) (v : Tree) → Fillable words letters out n mark v → (a : List ℕ) (r : Cursor) → Run words letters out n (fresh mark) a r
+    → Again words letters (sets out 0 (encode* (more v none) ++ payloads none)) (beyond (fresh mark) (more v none) none) n n a r
+table-again words letters out n mark v f a r g = again (g .left _ _ n (rows-due (begin words letters out n mark v f)))
 
 -- all of it is the value's bytes
 pub table-filled : (out : List ℕ) (mark : ℕ) (v : Tree) (a : List ℕ) (r : Cursor) → Filled out (fresh mark) (more v none) none a r → a ≡ sets out 0 (encode v)

@@ -1,8 +1,9 @@
 -- Filling: what the rows at a cursor are, and what writing them leaves, where the marks of compounds stand in the output behind what is written.
-use Prim.Native.Nat.{ℕ, _+_, _*_, _%_, _≤_}
+use Prim.Native.Nat.{ℕ, _+_, _*_, _%_, _≤_, _<_}
 use mathlib.Core.Path.{_≡_}
 use mathlib.Core.List.{List, _++_}
-use lib.Dec.{T}
+use mathlib.Core.Bool.{Bool, true}
+use lib.Dec.{T, leb}
 use lib.ListN.{length, take, drop, getD}
 use lib.Seq.{sets}
 use Rattle.standard.specs.Bytes.{unbe}
@@ -117,6 +118,30 @@ pub record Rows (words text out : List ℕ) (end last : ℕ) (c : Cursor) (kind 
   pub nested : 0xd0 ≤ kind
   pub lasts : Lasts last c us
   pub ends : end ≡ c .at + length (encode* us ++ payloads vs)
+
+-- What is left comes to what was due
+
+-- values up to `last`, and elements behind them up to `end`: lists, maps and arrays, or scalars
+pub record Left (words text goal : List ℕ) (stop : Cursor) (end : ℕ) (boxed : Bool) (last : ℕ) (out : List ℕ) (c : Cursor) (kind : ℕ) (us vs : Trees) : Type 0 where
+  pub pending : Pending words text out c kind us vs
+  pub nested : leb 0xd0 kind ≡ boxed
+  pub lasts : Lasts last c us
+  pub ends : end ≡ c .at + length (encode* us ++ payloads vs)
+  pub bytes : sets out (c .at) (encode* us ++ payloads vs) ≡ goal
+  pub place : beyond c us vs ≡ stop
+
+pub data Going (words text goal : List ℕ) (stop : Cursor) (end : ℕ) (boxed : Bool) (last : ℕ) (out : List ℕ) (c : Cursor) : Type 0 where
+  going : {kind : ℕ} {us vs : Trees} → Left words text goal stop end boxed last out c kind us vs → Going words text goal stop end boxed last out c
+
+-- from a cursor on to another, where values up to `last` are due: whatever was due at the one is due at the other, and a value in front that is no array is behind it
+pub record Run (words text out : List ℕ) (last : ℕ) (c : Cursor) (after : List ℕ) (r : Cursor) : Type 0 where
+  pub onward : c .row ≤ r .row
+  pub moved : c .at < last → ¬ (kindAt words c ≡ 0xf0) → c .row < r .row
+  pub left : (goal : List ℕ) (stop : Cursor) (end : ℕ) → Going words text goal stop end true last out c → Going words text goal stop end true last after r
+
+-- something is due
+abbrev pub SomeLeft : (words text out : List ℕ) → (last : ℕ) → Cursor → Type 0
+SomeLeft w x o l c = (goal : List ℕ) × (stop : Cursor) × (end : ℕ) × Going w x goal stop end true l o c
 
 -- a table of n bytes, at the end of which its marks stand
 pub record Fillable (words letters out : List ℕ) (n mark : ℕ) (v : Tree) : Type 0 where

@@ -14,7 +14,7 @@ ghost use Rattle.standard.specs.Encode.{encode};
 ghost use Rattle.writer.specs.Heads.{enclosure, arrayFields, headIs, values, elements, modeIs};
 ghost use Rattle.writer.specs.Marks.{markWidth};
 ghost use Rattle.writer.specs.Direct.{isArrayed, isListOrMap, compoundHead, Put};
-ghost use Rattle.writer.specs.Filling.{fresh, behind, kindAt, markAt, Ready, Stepped, Filled, One, Done, Elements, Rows, Fillable};
+ghost use Rattle.writer.specs.Filling.{fresh, behind, kindAt, markAt, Ready, Stepped, Filled, One, Done, Elements, Rows, Run, SomeLeft, Fillable};
 use crate::head;
 use crate::head::Head;
 use crate::put;
@@ -279,6 +279,30 @@ fn put_array(
     c.behind(size + 1, 0, count_mark(count))
 }
 
+// The values up to `last`, or up to the first that is an array.
+fn fill_values(words: &[u64], text: &[u8], out: &mut [u8], last: usize, start: Cursor) -> Cursor
+    requires { ⌜ SomeLeft (now words) (now text) (now out) last start ⌝ }
+    ensures { λ r. ⌜ Run (now (words .entry)) (now (text .entry)) (now (out .entry)) last start (now (out .exit)) r ⌝ }
+{
+    let mut c = start;
+    while c.at < last {
+        if words[2 * c.row] == 0xf0 {
+            return c;
+        }
+        c = put_value(words, text, out, c);
+    }
+    c
+}
+
+// The same for `fill_rows`, whose calls share their memory if each stands in a function of its own.
+fn fill_run(words: &[u64], text: &[u8], out: &mut [u8], last: usize, c: Cursor) -> Cursor
+    requires { ⌜ SomeLeft (now words) (now text) (now out) last c ⌝ }
+    ensures { λ r. ⌜ Run (now (words .entry)) (now (text .entry)) (now (out .entry)) last c (now (out .exit)) r ⌝ }
+{
+    let behind = fill_values(words, text, out, last, c);
+    return behind;
+}
+
 // The elements up to `end`, none of them a list, a map or an array.
 fn fill_plain(words: &[u64], text: &[u8], out: &mut [u8], end: usize, start: Cursor) -> Cursor
     requires { ⌜ ((k : ℕ) × (vs : Trees) × (k < 0xd0) × Elements (now words) (now text) (now out) end start k vs) ⌝ }
@@ -344,7 +368,7 @@ fn fill_rows(
             c = put_nested(words, text, out, body, c);
             last = c.at + body;
         } else {
-            c = put_value(words, text, out, c);
+            c = fill_run(words, text, out, last, c);
         }
     }
     c
@@ -355,5 +379,6 @@ pub(crate) fn fill(words: &[u64], text: &[u8], out: &mut [u8], n: usize, mark: u
     requires { ⌜ ((v : Tree) × Fillable (now words) (now text) (now out) n mark v) ⌝ }
     ensures { λ _. ⌜ ((v : Tree) → Fillable (now (words .entry)) (now (text .entry)) (now (out .entry)) n mark v → now (out .exit) ≡ sets (now (out .entry)) 0 (encode v)) ⌝ }
 {
-    fill_rows(words, text, out, n, n, Cursor::new(mark));
+    let c = fill_values(words, text, out, n, Cursor::new(mark));
+    fill_rows(words, text, out, n, n, c);
 }

@@ -16,9 +16,9 @@ use Rattle.standard.specs.Tree.{Trees, none}
 use Rattle.standard.specs.Kinds.{countIn, kindIn}
 use Rattle.standard.specs.Encode.{encode*, payloads}
 use Rattle.writer.specs.Heads.{modeIs}
-use Rattle.writer.specs.Filling.{beyond, numberAt, markAt, Ready, Stepped, Rows}
+use Rattle.writer.specs.Filling.{beyond, numberAt, markAt, Ready, Stepped, Rows, Going}
 use Rattle.writer.specs.declared.filling.Cursor.{Cursor}
-use Rattle.writer.proofs.Rows.{no-array, one-ready, ArrayIn, array-in, rows-of, Going, rows-due, row-there, whole-turn, ElementTurn, element-turn, ValueTurn, value-turn, last-room, finished}
+use Rattle.writer.proofs.Rows.{no-array, one-ready, ArrayIn, array-in, rows-of, rows-due, row-there, whole-turn, ElementTurn, element-turn, last-room, finished}
 use Rattle.writer.proofs.Cursors.{mark-room, list-mark, array-mark}
 use Rattle.writer.proofs.filling.fill_array.Reads as fill-array
 use Rattle.writer.proofs.filling.fill_array.Kinds as fill-array-kinds
@@ -34,7 +34,7 @@ use Rattle.writer.proofs.filling.fill_plain.Reads as fill-plain-reads
 use Rattle.writer.proofs.filling.mark_at.Reads as mark-at-reads
 use Rattle.writer.proofs.filling.put_array.Reads as put-array-reads
 use Rattle.writer.proofs.filling.put_nested.Reads as put-nested-reads
-use Rattle.writer.proofs.filling.put_value.Reads as put-value-reads
+use Rattle.writer.proofs.filling.fill_run.Reads as fill-run-reads
 use Rattle.writer.proofs.filling.+fill_array+fill_items+fill_rows.{statement}
 use Rattle.writer.proofs.filling.+fill_array+fill_items+fill_rows.Tie.{close}
 
@@ -72,7 +72,7 @@ abbrev items-claims : ℕ → fill-items-lts.Claims
 items-claims t = (fill-plain-reads.Asked, fill-plain-reads.Learnt, fill-rows-below t, fill-rows.Post)
 
 abbrev rows-claims : ℕ → fill-rows-lts.Claims
-rows-claims t = (fill-array-below t, fill-array.Post, count-mark-reads.Asked, count-mark-reads.Learnt, mark-at-reads.Asked, mark-at-reads.Learnt, put-nested-reads.Asked, put-nested-reads.Learnt, put-value-reads.Asked, put-value-reads.Learnt)
+rows-claims t = (fill-array-below t, fill-array.Post, count-mark-reads.Asked, count-mark-reads.Learnt, mark-at-reads.Asked, mark-at-reads.Learnt, put-nested-reads.Asked, put-nested-reads.Learnt, fill-run-reads.Asked, fill-run-reads.Learnt)
 
 -- An array: its row is ready, what its mark tells, and what is due when its head is written
 
@@ -115,10 +115,6 @@ width-here t c = list-mark _ _ (nested-here t (c .before .before .before .before
 
 body-here : (t : ℕ) (c : fill-rows-lts.After-mark-at (rows-claims t) (fill-rows-at t) fill-rows.Post Inv-rows μ-rows) → let l = c .before .before .before .before .before .before .before .before .before .before .before .before in c .mark-at .result ≡ unbe (take (markAt (l .before .before .before .before .args .words .now) (l .loop .c)) (drop (l .loop .c .mark) (l .loop .out)))
 body-here t c = c .mark-at .ensures .0 ∙ rw (width-here t (c .before))
-
-value-here : (t : ℕ) {goal : List ℕ} {stop : Cursor} (c : fill-rows-lts.Else3 (rows-claims t) (fill-rows-at t) fill-rows.Post Inv-rows μ-rows) → let l = c .before .before .before .before .before .before .before in let a = l .before .before .before .before .args in
-    Going (a .words .now) (a .text .now) goal stop (a .end) true (l .loop .last) (l .loop .out) (l .loop .c) → ValueTurn (a .words .now) (a .text .now) goal stop (a .end) true (l .loop .last) (l .loop .out) (l .loop .c)
-value-here t c g = value-turn g (leb-false _ _ (c .if3 .left)) (no-array _ (c .before .if2 .left))
 
 pub +fill-array+fill-items+fill-rows-spec : {M : Type 1} → statement M
 unfolding countIn kindIn
@@ -183,12 +179,12 @@ unfolding countIn kindIn
       omega (arith, c .before .before .before .before .before .before .before .before .before .before .before .before .before .before .before .before .before .loop .inv .1, ap (λ z. z .row) (c .before .before .before .put-nested .ensures .place)),
       λ k us vs e. nested-here t (c .before .before .before .before .before .before .before .before .before .before) (c .before .before .before .before .before .before .before .before .before .before .before .before .before .before .before .before .before .loop .inv .2 k us vs e) .next _ _ (c .before .before .before .put-nested .ensures) _ (ap (λ (x : ℕ). c .before .before .before .put-nested .result .at + x) (body-here t (c .before .before .before .before .before))),
     ))
-    (λ c κs. (value-here t (c .before) (left-here t (c .before .before .before .before .before .before .before .before)) .ready, no-array _ (c .before .before .if2 .left)))
-    (λ c. omega (arith, row-here t (c .before .before .before .before .before .before .before .before .before), ap (λ z. z .row) (c .before .before .put-value .ensures .place)))
+    (λ c κs. (_, _, _, left-here t (c .before .before .before .before .before .before .before .before)))
+    (λ c. omega (arith, row-here t (c .before .before .before .before .before .before .before .before .before), c .before .before .fill-run .ensures .moved (leb-false _ _ (c .before .before .before .before .if3 .left)) (c .before .before .before .before .before .if2 .left)))
     (λ c. (
-      c .before .before .put-value .kept .1 .1 .0 ∙ c .before .before .before .before .before .before .before .before .before .before .before .loop .inv .0,
-      omega (arith, c .before .before .before .before .before .before .before .before .before .before .before .loop .inv .1, ap (λ z. z .row) (c .before .before .put-value .ensures .place)),
-      λ k us vs e. value-here t (c .before .before .before .before) (c .before .before .before .before .before .before .before .before .before .before .before .loop .inv .2 k us vs e) .next _ _ (c .before .before .put-value .ensures),
+      c .before .before .fill-run .kept .1 .1 .0 ∙ c .before .before .before .before .before .before .before .before .before .before .before .loop .inv .0,
+      omega (arith, c .before .before .before .before .before .before .before .before .before .before .before .loop .inv .1, c .before .before .fill-run .ensures .onward),
+      λ k us vs e. c .before .before .fill-run .ensures .left _ _ _ (c .before .before .before .before .before .before .before .before .before .before .before .loop .inv .2 k us vs e),
     ))
     (λ c. c .before .before .loop .inv .0)
     (λ c. λ k us vs e. let f = finished (c .before .before .loop .inv .2 k us vs e) (c .if1 .left) in record { bytes = f .0; place = f .1 }))

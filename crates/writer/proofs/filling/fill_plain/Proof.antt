@@ -8,8 +8,8 @@ use lib.ListN.{length}
 use lib.Seq.{sets}
 use Rattle.standard.specs.Tree.{Trees, none}
 use Rattle.standard.specs.Encode.{encode*, payloads}
-use Rattle.writer.specs.Filling.{beyond, Elements}
-use Rattle.writer.proofs.Rows.{Going, plain-due, plain-turn, finished}
+use Rattle.writer.specs.Filling.{beyond, Elements, Going}
+use Rattle.writer.proofs.Rows.{plain-due, plain-turn, finished}
 use Rattle.writer.proofs.filling.fill_plain.Statement.{statement}
 use Rattle.writer.proofs.filling.fill_plain.Tie as tie
 
