@@ -3,9 +3,12 @@ use Prim.Native.Nat.{ℕ, _+_, _-_, _≤_, _<_}
 use mathlib.Core.Path.{_≡_, refl, sym, ap, _∙_}
 use mathlib.Core.List.{List, _++_}
 use native.Mathlib.Omega.{arith}
-use borrow.Author.Tests.{le-leb, lt-leb}
+use mathlib.Core.Bool.{Bool, true, false}
+use borrow.Author.Tests.{leb-true, leb-false, le-leb, lt-leb}
+use lib.Dec.{leb}
 use lib.ListN.{length, take, drop, length-append}
 use lib.Seq.{sets, length-sets, sets-eq, take-at, drop-at, length-take-le}
+use Rattle.standard.specs.Choose.{if}
 use Rattle.standard.specs.Answer.{Answer, got, refuse, Place, at, _>>=_, outputShort}
 use Rattle.standard.specs.Tree.{Tree}
 use Rattle.standard.specs.Table.{any, tree, table}
@@ -19,7 +22,7 @@ use Rattle.writer.specs.Marks.{marks}
 use Rattle.writer.specs.Marking.{Markable}
 use Rattle.writer.specs.Filling.{Fillable}
 use Rattle.standard.specs.Outcomes.{levelMost}
-use Rattle.writer.specs.Tables.{Fitting, Writable, bytesIn, marksIn}
+use Rattle.writer.specs.Tables.{Fitting, Writable, bytesIn, nearMost}
 use Rattle.writer.specs.declared.sizing.Extent.{Extent}
 use Rattle.writer.proofs.Rows.{marks-fit}
 use Rattle.writer.proofs.Whole.{fits-bytes}
@@ -39,23 +42,31 @@ covered d i xs ys e h =
     let z : 0 + length ys ≡ length ys = omega arith in
     sets-eq ys (sets d i xs) 0 (rw length-sets (omega arith)) ∙ rw (z, f) (sym (sets-eq ys d 0 (omega arith) ∙ rw z))
 
-module _ (w x near : List ℕ) (n m : ℕ) (d : List ℕ) (g : Writable w x near n m d) where
-  pub near-marks : m ≤ length near → (d₁ : List ℕ) → d₁ ≡ sets d (n - m) (take m (drop 0 near)) → d₁ ≡ sets d (n - m) (marksIn (table levelMost w x))
-  near-marks h d₁ e = e ∙ rw (g .isTable, g .close h)
+module _ (w x : List ℕ) (n m : ℕ) (b d : List ℕ) (g : Writable w x n m b d) where
+  near-is : m ≤ nearMost → d ≡ sets b (n - m) (marks (g .tree))
+  near-is h = g .placed ∙ rw (le-leb m nearMost h)
 
-  pub markable : m ≤ n → Markable w d (n - m) (g .tree)
+  far-is : nearMost < m → d ≡ b
+  far-is h = g .placed ∙ rw (lt-leb m nearMost h)
+
+  pub markable : nearMost < m → Markable w d (n - m) (g .tree)
   markable h =
       let t = table-holds levelMost w x (g .tree) (g .isTable) in
-      record { rowsAre = t .0; valid = t .2; small = omega (arith, g .size, g .small); room = omega (arith, g .mark, g .room) }
+      record { rowsAre = t .0; valid = t .2; small = omega (arith, g .size, g .small); room = rw (far-is h) (omega (arith, g .mark, g .room, g .inside)) }
 
-  pub far-marks : m ≤ n → (d₁ : List ℕ) → ((v : Tree) → Markable w d (n - m) v → d₁ ≡ sets d (n - m) (marks v)) → d₁ ≡ sets d (n - m) (marksIn (table levelMost w x))
-  far-marks h d₁ e = rw (g .isTable) (e (g .tree) (markable h))
+  -- the marks are at their place
+  pub marked : (d₁ : List ℕ) → (m ≤ nearMost → d₁ ≡ d) → (nearMost < m → (v : Tree) → Markable w d (n - m) v → d₁ ≡ sets d (n - m) (marks v)) → d₁ ≡ sets b (n - m) (marks (g .tree))
+  marked d₁ e f = go (leb m nearMost) refl
+    where
+      go : (z : Bool) → leb m nearMost ≡ z → d₁ ≡ sets b (n - m) (marks (g .tree))
+      go true h = let i = leb-true m nearMost h in e i ∙ near-is i
+      go false h = let i = leb-false m nearMost h in f i (g .tree) (markable i) ∙ ap (λ o. sets o (n - m) (marks (g .tree))) (far-is i)
 
-  module _ (h : m ≤ n) (d₁ : List ℕ) (e : d₁ ≡ sets d (n - m) (marksIn (table levelMost w x))) where
+  module _ (d₁ : List ℕ) (e : d₁ ≡ sets b (n - m) (marks (g .tree))) where
     tail-marks : take (length (marks (g .tree))) (drop (n - m) d₁) ≡ marks (g .tree)
     tail-marks =
-        let z : n - (n - m) ≡ length (marks (g .tree)) = omega (arith, g .mark) in
-        rw (e, g .isTable, ← z) (sym (drop-take (n - m) n (sets d (n - m) (marks (g .tree)))) ∙ around d (n - m) (marks (g .tree)) n (omega (arith, g .mark)) (g .room) .0)
+        let z : n - (n - m) ≡ length (marks (g .tree)) = omega (arith, g .mark, g .inside) in
+        rw (e, ← z) (sym (drop-take (n - m) n (sets b (n - m) (marks (g .tree)))) ∙ around b (n - m) (marks (g .tree)) n (omega (arith, g .mark, g .inside)) (g .room) .0)
 
     pub fillable : Fillable w x d₁ n (n - m) (g .tree)
     fillable =
@@ -68,12 +79,12 @@ module _ (w x near : List ℕ) (n m : ℕ) (d : List ℕ) (g : Writable w x near
           size = g .size;
           small = g .small;
           room = rw (e, length-sets) (g .room);
-          placed = omega (arith, g .mark);
+          placed = omega (arith, g .mark, g .inside);
           marked = tail-marks;
         }
 
-    pub all-bytes : (d₂ : List ℕ) → ((v : Tree) → Fillable w x d₁ n (n - m) v → d₂ ≡ sets d₁ 0 (encode v)) → d₂ ≡ sets d 0 (bytesIn (table levelMost w x))
-    all-bytes d₂ f = f (g .tree) fillable ∙ rw (e, g .isTable) (covered d (n - m) (marks (g .tree)) (encode (g .tree)) (omega (arith, g .mark, g .size)) (omega (arith, g .size, g .room)))
+    pub all-bytes : (d₂ : List ℕ) → ((v : Tree) → Fillable w x d₁ n (n - m) v → d₂ ≡ sets d₁ 0 (encode v)) → d₂ ≡ sets b 0 (bytesIn (table levelMost w x))
+    all-bytes d₂ f = f (g .tree) fillable ∙ rw (e, g .isTable) (covered b (n - m) (marks (g .tree)) (encode (g .tree)) (omega (arith, g .mark, g .size, g .inside)) (omega (arith, g .size, g .room)))
 
 -- A table that fits can be written
 -- at the highest limit it is the same
@@ -84,17 +95,27 @@ pub marks-inside : (l : ℕ) (w x b a : List ℕ) (e : Extent) → Fitting l w x
 unfolding modeOf
 marks-inside l w x b a e f = omega (arith, marks-fit (f .tree) l any tt (table-holds l w x (f .tree) (f .isTable) .2), f .size, f .mark)
 
-pub writable : (l : ℕ) (w x b a : List ℕ) (e : Extent) → Fitting l w x b a e → length a ≡ length b → (d : List ℕ) → e .size ≤ length d → Writable w x a (e .size) (e .mark) d
-writable l w x b a e f z d h =
-    record {
-      tree = f .tree;
-      isTable = fits-most l w x b a e f;
-      size = f .size;
-      small = f .small;
-      mark = f .mark;
-      close = λ r. rw (f .kept (omega (arith, f .mark)), front-over b (marks (f .tree)) (omega (arith, f .mark)), f .mark) (take-at (marks (f .tree)) (drop (length (marks (f .tree))) b) (length (marks (f .tree))) refl);
-      room = h;
-    }
+-- what is kept is the marks
+kept-marks : (l : ℕ) (w x b a : List ℕ) (e : Extent) (f : Fitting l w x b a e) → e .mark ≤ length b → take (e .mark) a ≡ marks (f .tree)
+kept-marks l w x b a e f h =
+    rw (f .kept (omega (arith, f .mark)), front-over b (marks (f .tree)) (omega (arith, f .mark)), f .mark) (take-at (marks (f .tree)) (drop (length (marks (f .tree))) b) (length (marks (f .tree))) refl)
+
+pub writable : (l : ℕ) (w x b a : List ℕ) (e : Extent) → Fitting l w x b a e → length b ≡ nearMost → length a ≡ length b → (d : List ℕ) → e .size ≤ length d
+    → (d₁ : List ℕ) → d₁ ≡ if (leb (e .mark) (length a)) (sets d (e .size - e .mark) (take (e .mark) a)) d → Writable w x (e .size) (e .mark) d d₁
+writable l w x b a e f i j d h d₁ k = record {
+  tree = f .tree;
+  isTable = fits-most l w x b a e f;
+  size = f .size;
+  small = f .small;
+  mark = f .mark;
+  inside = marks-inside l w x b a e f;
+  room = h;
+  placed = go (leb (e .mark) nearMost) refl;
+}
+  where
+    go : (z : Bool) → leb (e .mark) nearMost ≡ z → d₁ ≡ if (leb (e .mark) nearMost) (sets d (e .size - e .mark) (marks (f .tree))) d
+    go true q = rw q (k ∙ rw (j, i, q, kept-marks l w x b a e f (omega (arith, i, leb-true (e .mark) nearMost q))))
+    go false q = rw q (k ∙ rw (j, i, q))
 
 -- The outcomes
 

@@ -1,11 +1,12 @@
 -- What sizing says of a whole table.
-use Prim.Native.Nat.{ℕ, _≤_}
+use Prim.Native.Nat.{ℕ, _-_, _≤_}
 use mathlib.Core.Path.{_≡_}
 use mathlib.Core.List.{List, []}
-use lib.Dec.{T}
-use lib.ListN.{length, take}
+use lib.Dec.{T, leb}
+use lib.ListN.{length}
 use lib.Seq.{sets}
 use Rattle.standard.specs.Answer.{Answer, got, refuse}
+use Rattle.standard.specs.Choose.{if}
 use Rattle.standard.specs.InCode.{refusalIs}
 use Rattle.standard.specs.Tree.{Tree}
 use Rattle.standard.specs.Table.{most, table}
@@ -31,21 +32,27 @@ abbrev pub TableSized : (limit : ℕ) → (words letters before after : List ℕ
 TableSized l w x b a (Fits e) = Fitting l w x b a e
 TableSized l w x b a (Refused r) = outcome.size l w x ≡ refusalIs r
 
--- the bytes and the marks of what a table holds
+-- the bytes of what a table holds
 abbrev pub bytesIn : Answer Tree → List ℕ
 bytesIn (got v) = encode v
 bytesIn (refuse x p) = []
 
-abbrev pub marksIn : Answer Tree → List ℕ
-marksIn (got v) = marks v
-marksIn (refuse x p) = []
+-- so many bytes of marks are kept beside the output
+abbrev pub nearMost : ℕ
+nearMost = 600
 
--- a table of n bytes with m bytes of marks, whatever the level limit that it was sized within, of which the first stand near if there is room for all
-pub record Writable (words letters near : List ℕ) (n m : ℕ) (out : List ℕ) : Type 0 where
+-- a table of n bytes with m bytes of marks, whatever the level limit that it was sized within, and an output with room for it, in which the marks are at their place if they were kept
+pub record Writable (words letters : List ℕ) (n m : ℕ) (before out : List ℕ) : Type 0 where
   pub tree : Tree
   pub isTable : table levelMost words letters ≡ got tree
   pub size : n ≡ length (encode tree)
   pub small : n ≤ most
   pub mark : m ≡ length (marks tree)
-  pub close : m ≤ length near → take m near ≡ marks tree
-  pub room : n ≤ length out
+  pub inside : m ≤ n
+  pub room : n ≤ length before
+  pub placed : out ≡ if (leb m nearMost) (sets before (n - m) (marks tree)) before
+
+-- what sizing says of a table and an output
+abbrev pub SizedFor : (limit : ℕ) → (words letters before after : List ℕ) → Sized → Type 0
+SizedFor l w x b a (Fits e) = Writable w x (e .size) (e .mark) b a × (outcome.write l w x b ≡ record { answer = got (e .size); out = sets b 0 (bytesIn (table levelMost w x)) })
+SizedFor l w x b a (Refused r) = (a ≡ b) × (outcome.write l w x b ≡ record { answer = refusalIs r; out = b })

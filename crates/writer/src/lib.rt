@@ -8,10 +8,17 @@
 ghost use mathlib.Core.Path.{_≡_};
 ghost use Rattle.standard.specs.Outcomes as outcome;
 ghost use Rattle.standard.specs.Outcomes.{levelMost, levelDefault};
-ghost use Prim.Native.Nat.{_-_, _≤_};
+ghost use Prim.Native.Nat.{ℕ, _-_, _≤_, _<_};
+ghost use mathlib.Core.List.{List};
+ghost use lib.Dec.{leb};
+ghost use lib.ListN.{length, take};
 ghost use lib.Seq.{sets};
+ghost use Rattle.standard.specs.Choose.{if};
+ghost use Rattle.standard.specs.Tree.{Tree};
 ghost use Rattle.standard.specs.Table.{table};
-ghost use Rattle.writer.specs.Tables.{TableSized, Writable, bytesIn, marksIn};
+ghost use Rattle.writer.specs.Marks.{marks};
+ghost use Rattle.writer.specs.Marking.{Markable, Tabled};
+ghost use Rattle.writer.specs.Tables.{TableSized, SizedFor, Writable, bytesIn, nearMost};
 ghost use Rattle.writer.specs.InCode.{writtenIs};
 
 mod filling;
@@ -29,8 +36,8 @@ use standard::limit;
 use standard::refusal;
 use standard::refusal::Refusal;
 
-// So many bytes of marks are kept beside the output: those of 256 compounds.
-const NEAR: usize = 768;
+// So many bytes of marks are kept beside the output: those of 200 compounds.
+const NEAR: usize = 600;
 
 // The length in bytes of what is written, or why nothing is.
 pub enum Written {
@@ -89,25 +96,49 @@ pub fn size(words: &[u64], text: &[u8]) -> Written
     size_within(limit::DEFAULT, words, text)
 }
 
-// Puts the marks of a table to the end of its n bytes: from memory where they are near, or by going over its rows.
-fn put_marks(words: &[u64], text: &[u8], near: &[u8], n: usize, m: usize, out: &mut [u8])
-    requires { ⌜ (m ≤ n) × Writable (now words) (now text) (now near) n m (now out) ⌝ }
-    ensures { λ _. ⌜ now (out .exit) ≡ sets (now (out .entry)) (n - m) (marksIn (table levelMost (now (words .entry)) (now (text .entry)))) ⌝ }
+// Puts m bytes of marks to the end of n bytes, where they were kept near.
+fn put_near(near: &[u8], n: usize, m: usize, out: &mut [u8])
+    requires { ⌜ (m ≤ n) × (n ≤ length (now out)) ⌝ }
+    ensures { λ _. ⌜ now (out .exit) ≡ if (leb m (length (now (near .entry)))) (sets (now (out .entry)) (n - m) (take m (now (near .entry)))) (now (out .entry)) ⌝ }
 {
-    let slot = n - m;
     if m <= near.len() {
-        put::put_text(out, slot, near, 0, m);
-        return;
+        put::put_text(out, n - m, near, 0, m);
     }
-    marking::mark_table(words, out, slot);
 }
 
-// Writes a table of n bytes with m bytes of marks.
-fn write_table(words: &[u64], text: &[u8], near: &[u8], n: usize, m: usize, out: &mut [u8])
-    requires { ⌜ (m ≤ n) × Writable (now words) (now text) (now near) n m (now out) ⌝ }
-    ensures { λ _. ⌜ now (out .exit) ≡ sets (now (out .entry)) 0 (bytesIn (table levelMost (now (words .entry)) (now (text .entry)))) ⌝ }
+// Sizes a table for an output. If there is room for it, marks that are kept near are put to the end of its bytes.
+fn size_for(limit: usize, words: &[u64], text: &[u8], out: &mut [u8]) -> Sized
+    ensures { λ r. ⌜ SizedFor limit (now (words .entry)) (now (text .entry)) (now (out .entry)) (now (out .exit)) r ⌝ }
 {
-    put_marks(words, text, near, n, m, out);
+    let mut near = [0u8; NEAR];
+    let all = size_table(limit, words, text, &mut near);
+    let Sized::Fits(e) = all else {
+        return all;
+    };
+    if out.len() < e.size {
+        return refuse(refusal::OUTPUT_SHORT, 0);
+    }
+    put_near(&near, e.size, e.mark, out);
+    all
+}
+
+// Puts m bytes of marks to the end of n bytes by going over the rows, where they were too many to be kept near.
+fn put_far(words: &[u64], n: usize, m: usize, out: &mut [u8])
+    requires { ⌜ (m ≤ n) × (nearMost < m → Tabled (now words) (now out) (n - m)) ⌝ }
+    ensures { λ _. ⌜ (m ≤ nearMost → now (out .exit) ≡ now (out .entry))
+        × (nearMost < m → (v : Tree) → Markable (now (words .entry)) (now (out .entry)) (n - m) v → now (out .exit) ≡ sets (now (out .entry)) (n - m) (marks v)) ⌝ }
+{
+    if NEAR < m {
+        marking::mark_table(words, out, n - m);
+    }
+}
+
+// Writes a table of n bytes with m bytes of marks, which are at their place if they were kept near.
+fn write_table(words: &[u64], text: &[u8], n: usize, m: usize, out: &mut [u8])
+    requires { ⌜ ((before : List ℕ) × Writable (now words) (now text) n m before (now out)) ⌝ }
+    ensures { λ _. ⌜ ((before : List ℕ) → Writable (now (words .entry)) (now (text .entry)) n m before (now (out .entry)) → now (out .exit) ≡ sets before 0 (bytesIn (table levelMost (now (words .entry)) (now (text .entry))))) ⌝ }
+{
+    put_far(words, n, m, out);
     filling::fill(words, text, out, n, n - m);
 }
 
@@ -116,17 +147,10 @@ pub fn write_within(limit: usize, words: &[u64], text: &[u8], out: &mut [u8]) ->
     ensures { λ r. ⌜ (writtenIs r ≡ outcome.write limit (now (words .entry)) (now (text .entry)) (now (out .entry)) .answer)
         × (now (out .exit) ≡ outcome.write limit (now (words .entry)) (now (text .entry)) (now (out .entry)) .out) ⌝ }
 {
-    let mut near = [0u8; NEAR];
-    match size_table(limit, words, text, &mut near) {
+    match size_for(limit, words, text, out) {
         Sized::Refused(r) => Written::Refused(r),
         Sized::Fits(e) => {
-            if out.len() < e.size {
-                return Written::Refused(Refusal {
-                    number: refusal::OUTPUT_SHORT,
-                    place: 0,
-                });
-            }
-            write_table(words, text, &near, e.size, e.mark, out);
+            write_table(words, text, e.size, e.mark, out);
             Written::Length(e.size)
         }
     }
