@@ -13,6 +13,7 @@ ghost use Rattle.standard.specs.InCode.{styleIs};
 ghost use Rattle.writer.specs.Heads.{values, elements};
 ghost use Rattle.writer.specs.Direct.{isLettered};
 ghost use Rattle.writer.specs.Rows.{check};
+ghost use Rattle.writer.specs.InCode.{checkedIs, Styled};
 ghost use Rattle.writer.specs.Sizing.{opens, arrays, textSize, lettersSize, takenOf, other, Nested, Finds, Within, Small, begin, past, beyond, passed, inside, openHead, closed, MarkPut};
 use crate::head;
 use crate::number;
@@ -390,6 +391,33 @@ fn size_elements(
     size_items(words, text, told, count, levels - 1, marks, first)
 }
 
+// The element at `c`, by the checks of every row. A call of its own, as `size_children` is: what it takes of the stack is free again behind it.
+fn check_element(words: &[u64], text: &[u8], told: u64, levels: usize, c: Extent) -> Checked
+    requires { ⌜ (2 * (c .row) ≤ length (now words)) × (c .text ≤ length (now text)) ⌝ }
+    ensures { λ r. ⌜ (checkedIs (c .row) r ≡ check levels (like told) (c .row) (drop (2 * (c .row)) (now (words .entry))) (drop (c .text) (now (text .entry)))) × Styled r ⌝ }
+{
+    // named, as in `size_children`
+    let checked = row::check_row(
+        words,
+        text,
+        c.row,
+        c.text,
+        levels,
+        IsArrayElement::OfKind(told),
+    );
+    return checked;
+}
+
+// The row at `c`, which is `Taken::Other`. A call of its own too.
+fn size_other(words: &[u64], text: &[u8], levels: usize, c: Extent) -> Sized
+    requires { ⌜ Within (now words) (now text) c × (takenOf levels (drop (2 * (c .row)) (now words)) (drop (c .text) (now text)) ≡ other) ⌝ }
+    ensures { λ r. ⌜ r ≡ passed c (check levels any (c .row) (drop (2 * (c .row)) (now (words .entry))) (drop (c .text) (now (text .entry)))) ⌝ }
+{
+    // named, as in `size_children`
+    let one = size_row(words, text, levels, c);
+    return one;
+}
+
 // So many elements of an array that tells that kind, the first of them at `start`, where so many levels are left.
 fn size_items(
     words: &[u64],
@@ -421,14 +449,7 @@ fn size_items(
             };
             c = close(marks, c, told, nested_head(told), e.size, e);
         } else {
-            match row::check_row(
-                words,
-                text,
-                c.row,
-                c.text,
-                levels,
-                IsArrayElement::OfKind(told),
-            ) {
+            match check_element(words, text, told, levels, c) {
                 Checked::Bad(number) => {
                     return Sized::Refused(Refusal {
                         number,
@@ -479,9 +500,7 @@ pub(crate) fn size_values(
                 c = close(marks, c, 0xf0, head::array_width(e.size), e.size, e);
             }
             Taken::Other => {
-                // a copy is lent, so that `c` stays in registers
-                let here = c;
-                let one = size_row(words, text, levels, here);
+                let one = size_other(words, text, levels, c);
                 let Sized::Fits(e) = one else {
                     return one;
                 };

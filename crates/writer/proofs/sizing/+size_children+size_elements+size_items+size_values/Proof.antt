@@ -34,13 +34,14 @@ use Rattle.writer.proofs.sizing.+size_children+size_elements+size_items
 use Rattle.standard.proofs.kind.Style.letters.Reads as letters-reads
 use Rattle.writer.proofs.head.array_width.Reads as array-width-reads
 use Rattle.writer.proofs.head.item_width.Reads as item-width-reads
-use Rattle.writer.proofs.row.check_row.Reads as check-row-reads
 use Rattle.writer.proofs.sizing.Extent.inside.Reads as inside-reads
 use Rattle.writer.proofs.sizing.Extent.past.Reads as past-reads
+use Rattle.writer.proofs.sizing.check_element.Reads as check-element-reads
 use Rattle.writer.proofs.sizing.close.Reads as close-reads
 use Rattle.writer.proofs.sizing.is_nested.Reads as is-nested-reads
 use Rattle.writer.proofs.sizing.nested_head.Reads as nested-head-reads
 use Rattle.writer.proofs.sizing.open_head.Reads as open-head-reads
+use Rattle.writer.proofs.sizing.size_other.Reads as size-other-reads
 use Rattle.writer.proofs.sizing.size_row.Reads as size-row-reads
 use Rattle.writer.proofs.sizing.take_row.Reads as take-row-reads
 use Rattle.writer.proofs.sizing.+size_children+size_elements+size_items+size_values.{statement}
@@ -89,10 +90,10 @@ abbrev elements-claims : ℕ → size-elements-lts.Claims
 elements-claims t = (inside-reads.Asked, inside-reads.Learnt, size-row-reads.Asked, size-row-reads.Learnt, size-items-below t, size-items.Post)
 
 abbrev items-claims : ℕ → size-items-lts.Claims
-items-claims t = (is-nested-reads.Asked, is-nested-reads.Learnt, size-elements-below t, size-elements.Post, size-children-below t, size-children.Post, nested-head-reads.Asked, nested-head-reads.Learnt, close-reads.Asked, close-reads.Learnt, check-row-reads.Asked, check-row-reads.Learnt, letters-reads.Asked, letters-reads.Learnt, item-width-reads.Asked, item-width-reads.Learnt, past-reads.Asked, past-reads.Learnt)
+items-claims t = (is-nested-reads.Asked, is-nested-reads.Learnt, size-elements-below t, size-elements.Post, size-children-below t, size-children.Post, nested-head-reads.Asked, nested-head-reads.Learnt, close-reads.Asked, close-reads.Learnt, check-element-reads.Asked, check-element-reads.Learnt, letters-reads.Asked, letters-reads.Learnt, item-width-reads.Asked, item-width-reads.Learnt, past-reads.Asked, past-reads.Learnt)
 
 abbrev values-claims : ℕ → size-values-lts.Claims
-values-claims t = (take-row-reads.Asked, take-row-reads.Learnt, past-reads.Asked, past-reads.Learnt, size-children-below t, size-children.Post, open-head-reads.Asked, open-head-reads.Learnt, close-reads.Asked, close-reads.Learnt, size-elements-below t, size-elements.Post, array-width-reads.Asked, array-width-reads.Learnt, size-row-reads.Asked, size-row-reads.Learnt)
+values-claims t = (take-row-reads.Asked, take-row-reads.Learnt, past-reads.Asked, past-reads.Learnt, size-children-below t, size-children.Post, open-head-reads.Asked, open-head-reads.Learnt, close-reads.Asked, close-reads.Learnt, size-elements-below t, size-elements.Post, array-width-reads.Asked, array-width-reads.Learnt, size-other-reads.Asked, size-other-reads.Learnt)
 
 abbrev size-items-Inv-loop : size-items-lts.InvT-loop
 size-items-Inv-loop words text told count levels marks₀ c₀ left₀ marks c left = Comes words text levels (like told) c₀ count marks₀ c left marks
@@ -130,7 +131,7 @@ nested-finds t c = ⊎-elim (λ w. rw (w .5, w .6, w .0 .taken) (w .2 .ensures, 
 -- and one without
 leaf : (t : ℕ) (c : size-items-lts.After-item-width (items-claims t) (size-items-at t) size-items.Post size-items-Inv-loop size-items-μ-loop) →
     let a = c .before .before .before .before .before .before .before .before .before .before .before .before .before .args in let i = c .before .before .before .before .before .before .before .before .before .loop in let u = c .before .letters .result in Comes (a .words .now) (a .text .now) (a .levels) (like (a .told)) (a .start) (a .count) (a .marks .now) (past (i .c) u (c .item-width .result + u)) (i .left - 1) (i .marks)
-leaf t c = element-on (c .before .before .before .before .before .before .before .before .before .loop .inv) (c .before .before .before .before .before .before .before .before .loop-test .taken) _ _ (sym (c .before .before .before .before .before .check-row .ensures .0) ∙ ap (checkedIs (c .before .before .before .before .before .before .before .before .before .loop .c .row)) (c .before .before .before .style .given .1)) (rw (c .before .before .before .before .before .before .if1 .left) at (c .before .before .before .before .before .before .before .is-nested .ensures)) _ (subst Styled (c .before .before .before .style .given .1) (c .before .before .before .before .before .check-row .ensures .1)) _ _ (c .before .letters .ensures) (c .item-width .ensures)
+leaf t c = element-on (c .before .before .before .before .before .before .before .before .before .loop .inv) (c .before .before .before .before .before .before .before .before .loop-test .taken) _ _ (sym (c .before .before .before .before .before .check-element .ensures .0) ∙ ap (checkedIs (c .before .before .before .before .before .before .before .before .before .loop .c .row)) (c .before .before .before .style .given .1)) (rw (c .before .before .before .before .before .before .if1 .left) at (c .before .before .before .before .before .before .before .is-nested .ensures)) _ (subst Styled (c .before .before .before .style .given .1) (c .before .before .before .before .before .check-element .ensures .1)) _ _ (c .before .letters .ensures) (c .item-width .ensures)
 
 -- A value with children of their own codes
 
@@ -224,7 +225,7 @@ unfolding modeOf countIn kindIn
     -- is refused
     (λ c. search needs)
     (λ c. c .before .before .before .before .before .before .before .loop .inv .kept)
-    (λ c. comes-no (c .before .before .before .before .before .before .before .loop .inv) (c .before .before .before .before .before .before .loop-test .taken) _ _ (sym (c .before .before .before .check-row .ensures .0) ∙ ap (checkedIs (c .before .before .before .before .before .before .before .loop .c .row)) (c .before .number .given .1)))
+    (λ c. comes-no (c .before .before .before .before .before .before .before .loop .inv) (c .before .before .before .before .before .before .loop-test .taken) _ _ (sym (c .before .before .before .check-element .ensures .0) ∙ ap (checkedIs (c .before .before .before .before .before .before .before .loop .c .row)) (c .before .number .given .1)))
     -- or passed
     (λ c. search needs)
     (λ c κs. search needs)
@@ -284,9 +285,9 @@ unfolding modeOf countIn kindIn
     (λ c. search needs)
     (λ c. search needs)
     (λ c. c .before .before .before .before .before .before .before .loop .inv .kept)
-    (λ c. rw (c .enum-told4 .given .1) (subst (Rowed _ _ _ _ _ _ _ _) (sym (c .before .before .size-row .ensures) ∙ c .enum-told4 .given .1) (other-rowed (c .before .before .before .before .before .before .before .loop .inv) (c .before .before .before .before .before .before .loop-test .taken) (sym (c .before .before .before .before .before .take-row .ensures) ∙ c .before .before .before .enum-told3 .given .1))))
+    (λ c. rw (c .enum-told4 .given .1) (subst (Rowed _ _ _ _ _ _ _ _) (sym (c .before .before .size-other .ensures) ∙ c .enum-told4 .given .1) (other-rowed (c .before .before .before .before .before .before .before .loop .inv) (c .before .before .before .before .before .before .loop-test .taken) (sym (c .before .before .before .before .before .take-row .ensures) ∙ c .before .before .before .enum-told3 .given .1))))
     (λ c. omega (arith, c .before .before .before .before .before .before .before .loop-test .taken))
-    (λ c. subst (Rowed _ _ _ _ _ _ _ _) (sym (c .before .before .before .size-row .ensures) ∙ c .before .one .given .1) (other-rowed (c .before .before .before .before .before .before .before .before .loop .inv) (c .before .before .before .before .before .before .before .loop-test .taken) (sym (c .before .before .before .before .before .before .take-row .ensures) ∙ c .before .before .before .before .enum-told3 .given .1)))
+    (λ c. subst (Rowed _ _ _ _ _ _ _ _) (sym (c .before .before .before .size-other .ensures) ∙ c .before .one .given .1) (other-rowed (c .before .before .before .before .before .before .before .before .loop .inv) (c .before .before .before .before .before .before .before .loop-test .taken) (sym (c .before .before .before .before .before .before .take-row .ensures) ∙ c .before .before .before .before .enum-told3 .given .1)))
     -- nothing is left
     (λ c. c .before .loop .inv .kept)
     (λ c. comes-found (c .before .loop .inv) _ _ (finds-none _ _ _ _ _ _ _ (omega (arith, c .loop-test .left)))))
