@@ -20,6 +20,8 @@ use Rattle.standard.specs.Encode.{shortEnd, encode, encode*, payloads}
 use Rattle.standard.specs.Outcomes.{levelMost}
 use Rattle.standard.specs.Facts.{T-true, and-left, if-case}
 use Rattle.laws.specs.Numbers.{length-be}
+use Rattle.laws.specs.Bounds.{rows-length, small}
+use Rattle.laws.specs.Written.{well-formed}
 use Rattle.laws.specs.Stores.{sets-append}
 use Rattle.standard.proofs.Lookup.{Rest}
 use Rattle.writer.specs.Heads.{head, itemWidth, bodyOf, Mode, values, elements, modeIs, modeOf, headIn, written*}
@@ -74,7 +76,7 @@ pub record Run (levels left : ℕ) (b : Bool) (c : Spot) (vs : Trees) : Type 0 w
 
 -- The compounds that are open, by their numbers on the stack, and the rows behind each: from e at the end of the innermost, which may be an array, it goes on to z
 pub data Held (st : List ℕ) (z : Reach) : (top levels : ℕ) → (array : Bool) → (words : List ℕ) → Reach → Type 0 where
-  whole : {a : Bool} → length st ≡ 3 * levelMost → z .size ≤ most → z .mark ≤ length (z .buffer) → Held st z 0 levelMost a [] z
+  whole : {a : Bool} → length st ≡ 3 * levelMost → z .size ≤ most → z .mark ≤ most → z .mark ≤ length (z .buffer) → Held st z 0 levelMost a [] z
   inside : {top l : ℕ} {a : Bool} {e : Reach} (c : Spot) (vs : Trees) (u : List ℕ) → 3 ≤ top → Run (suc l) (leftOn st top) (elementsOn st top) c vs → startOn st top ≤ e .size → placeOn st top + 3 ≤ length (e .buffer)
       → Held st z (top - 3) (suc l) (elementsOn st top) u (over (modeIs (elementsOn st top)) vs (shut (modeIs (elementsOn st top)) a (startOn st top) (placeOn st top) e))
       → Held st z top l a (rows* vs ++ u) e
@@ -92,7 +94,7 @@ pub record Due (w : List ℕ) (z : Reach) (st o : List ℕ) (c : Point) : Type 0
 -- The stack
 
 held-kept : {st r : List ℕ} {z : Reach} {top l : ℕ} {a : Bool} {u : List ℕ} {e : Reach} → length r ≡ length st → ((i : ℕ) → i < top → getD r i 0 ≡ getD st i 0) → Held st z top l a u e → Held r z top l a u e
-held-kept n k (whole h s m) = whole (n ∙ h) s m
+held-kept n k (whole h s f m) = whole (n ∙ h) s f m
 held-kept {top = top} {l = l} {a = a} {e = e} n k (inside c vs u h r s p g) =
     let x = k (top - 3) (omega arith) in
     let y = k (top - 3 + 1) (omega arith) in
@@ -101,9 +103,9 @@ held-kept {top = top} {l = l} {a = a} {e = e} n k (inside c vs u h r s p g) =
 
 -- sizes and marks only grow, and levels fall as the stack grows
 held-fits : {st : List ℕ} {z : Reach} {top l : ℕ} {a : Bool} {u : List ℕ} {e : Reach} → Held st z top l a u e
-    → (e .size ≤ most) × (e .mark ≤ length (e .buffer)) × (length (e .buffer) ≡ length (z .buffer)) × (top + 3 * l ≡ 3 * levelMost) × (length st ≡ 3 * levelMost)
-held-fits (whole h s m) = (s, m, refl, refl, h)
-held-fits (inside c vs u h r s p g) = let a = held-fits g in (omega (arith, a .0), omega (arith, simp length-sets at (a .1)), simp length-sets at (a .2), omega (arith, a .3), a .4)
+    → (e .size ≤ most) × (e .mark ≤ length (e .buffer)) × (length (e .buffer) ≡ length (z .buffer)) × (top + 3 * l ≡ 3 * levelMost) × (length st ≡ 3 * levelMost) × (e .mark ≤ most)
+held-fits (whole h s f m) = (s, m, refl, refl, h, f)
+held-fits (inside c vs u h r s p g) = let a = held-fits g in (omega (arith, a .0), omega (arith, simp length-sets at (a .1)), simp length-sets at (a .2), omega (arith, a .3), a .4, omega (arith, a .5))
 
 due-back : (n : ℕ) (b : Bool) → (due n b / 2 ≡ n) × (eqb (due n b % 2) 1 ≡ b)
 due-back n true = let e : (2 * n + 1) % 2 ≡ 1 = omega arith in (omega arith, rw e)
@@ -316,9 +318,9 @@ module _ (w : List ℕ) (z : Reach) (st o : List ℕ) (c : Point) (s : Spot) (k 
         omega (arith, y .2),
       )
 
-  stepped : length w * 8 < 2 ^ 63 → length (z .buffer) < 2 ^ 63 → c .left ≤ length w → Step w z c (Ready w c) (stacked st c (kindOn w c) (numberOn w c)) o (taken c (kindOn w c) (numberOn w c))
+  stepped : length w ≤ 2 * most → c .left ≤ length w → Step w z c (Ready w c) (stacked st c (kindOn w c) (numberOn w c)) o (taken c (kindOn w c) (numberOn w c))
   unfolding count
-  stepped i j v =
+  stepped i v =
       let a = held-fits g in
       let b = onward (classify s k (styleOf k) n cs (own .known) (is-named k) fit (own .inRange) (own .full)) in
       record {
@@ -343,15 +345,15 @@ module _ {w : List ℕ} {z : Reach} {st o : List ℕ} {c : Point} (d : Due w z s
       (omega (arith, d .run .full, few (d .rest), ap length (d .rowsAre), length-append (rows* (d .rest)) (d .behind), length-drop (2 * (c .row)) w), omega arith)
 
   -- a row is due
-  pub turn : 0 < c .left → length w * 8 < 2 ^ 63 → length (z .buffer) < 2 ^ 63 → Step w z c (Ready w c) (stacked st c (kindOn w c) (numberOn w c)) o (taken c (kindOn w c) (numberOn w c))
+  pub turn : 0 < c .left → length w ≤ 2 * most → Step w z c (Ready w c) (stacked st c (kindOn w c) (numberOn w c)) o (taken c (kindOn w c) (numberOn w c))
   unfolding count rows*
-  turn h i j = go (d .rest) (d .levels) (d .run) (d .rowsAre) (d .held)
+  turn h i = go (d .rest) (d .levels) (d .run) (d .rowsAre) (d .held)
     where
       go : (vs : Trees) (l : ℕ) → Run l (c .left) (c .elements) (d .spot) vs → drop (2 * (c .row)) w ≡ rows* vs ++ d .behind → Held st z (c .top) l (c .elements) (d .behind) (over (modeIs (c .elements)) vs (reach (c .size) (c .mark) o))
           → Step w z c (Ready w c) (stacked st c (kindOn w c) (numberOn w c)) o (taken c (kindOn w c) (numberOn w c))
       go none l r e g = absurd (omega (arith, r .full))
       go (more (node k n t cs) vs) zero r e g = absurd (r .valid .0)
-      go (more (node k n t cs) vs) (suc l) r e g = stepped w z st o c (d .spot) k n t cs vs l (d .behind) (two w (c .row) k n ((rows* cs ++ rows* vs) ++ d .behind) e) r g i j (left-small .0)
+      go (more (node k n t cs) vs) (suc l) r e g = stepped w z st o c (d .spot) k n t cs vs l (d .behind) (two w (c .row) k n ((rows* cs ++ rows* vs) ++ d .behind) e) r g i (left-small .0)
 
   -- none is due
   spent : c .left ≡ 0 → (drop (2 * (c .row)) w ≡ d .behind) × Held st z (c .top) (d .levels) (c .elements) (d .behind) (reach (c .size) (c .mark) o)
@@ -364,17 +366,17 @@ module _ {w : List ℕ} {z : Reach} {st o : List ℕ} {c : Point} (d : Due w z s
       go (more v vs) n r g = absurd (omega arith)
 
   -- the innermost compound ends
-  pub ended : c .left ≡ 0 → 0 < c .left + c .top → Step w z c (Complete st o c) st (sets o (placeOn st (c .top)) (be 3 (c .size - startOn st (c .top)))) (closed st c)
-  ended e h = go refl refl refl (spent e .0) (spent e .1)
+  pub ended : c .left ≡ 0 → 0 < c .left + c .top → length w ≤ 2 * most → Step w z c (Complete st o c) st (sets o (placeOn st (c .top)) (be 3 (c .size - startOn st (c .top)))) (closed st c)
+  ended e h n = go refl refl refl (spent e .0) (spent e .1)
     where
       go : {t l : ℕ} {a : Bool} {u : List ℕ} {x : Reach} → c .top ≡ t → c .elements ≡ a → reach (c .size) (c .mark) o ≡ x → drop (2 * (c .row)) w ≡ u → Held st z t l a u x
           → Step w z c (Complete st o c) st (sets o (placeOn st (c .top)) (be 3 (c .size - startOn st (c .top)))) (closed st c)
-      go t q x r (whole i j k) = absurd (omega arith)
+      go t q x r (whole i j f k) = absurd (omega arith)
       go {l = l} t q x r (inside s vs u i j k m g) =
           let a = held-fits g in
           let b = ap (λ y. y .size) x in
           record {
-            can = record { high = omega arith; deep = omega arith; start = rw t (rw (← x) at k); place = rw t (rw (← x) at m); small = omega arith };
+            can = record { high = omega arith; deep = omega arith; start = rw t (rw (← x) at k); place = rw t (rw (← x) at m); left = rw t (omega (arith, j .full, few vs, ap length r, length-append (rows* vs) u, length-drop (2 * (c .row)) w)); small = omega arith };
             due = record { spot = s; rest = vs; levels = suc l; behind = u; run = rw t j; rowsAre = r; held = rw (t, q) (rw (← x) at g) };
             less = omega arith;
           }
@@ -384,8 +386,14 @@ module _ {w : List ℕ} {z : Reach} {st o : List ℕ} {c : Point} (d : Due w z s
   finished h = go refl (spent (omega arith) .1)
     where
       go : {t l : ℕ} {a : Bool} {u : List ℕ} {x : Reach} → c .top ≡ t → Held st z t l a u x → x .buffer ≡ z .buffer
-      go t (whole i j k) = refl
+      go t (whole i j f k) = refl
       go t (inside s vs u i j k m g) = absurd (omega arith)
+
+-- a table has no more rows than bytes, and two words to each
+pub few-words : {w o : List ℕ} {m : ℕ} {v : Tree} → Markable w o m v → length w ≤ 2 * most
+few-words {w = w} {v = v} k =
+    let s = small levelMost v (encode v) (well-formed levelMost v (k .valid) (k .small)) in
+    omega (arith, ap length (k .rowsAre), rows-length v, s .height, k .small)
 
 -- the marks of a whole table
 abbrev pub goal : (buffer : List ℕ) → (mark : ℕ) → Tree → Reach
@@ -401,7 +409,7 @@ begun w o m v st h k = record {
   behind = [];
   run = record { full = refl; valid = (k .valid, tt); sure = tt; mode = refl };
   rowsAre = k .rowsAre ∙ sym (append-nil (rows v ++ []) ∙ append-nil (rows v));
-  held = subst (Held st (goal o m v) 0 levelMost false []) (sym all) (whole h (k .small) (rw length-sets (k .room)));
+  held = subst (Held st (goal o m v) 0 levelMost false []) (sym all) (whole h (k .small) (k .ends) (rw length-sets (k .room)));
 }
   where
     all : over values (more v none) (reach 0 m o) ≡ goal o m v

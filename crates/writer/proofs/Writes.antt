@@ -52,7 +52,7 @@ module _ (w x : List ℕ) (n m : ℕ) (b d : List ℕ) (g : Writable w x n m b d
   pub markable : nearMost < m → Markable w d (n - m) (g .tree)
   markable h =
       let t = table-holds levelMost w x (g .tree) (g .isTable) in
-      record { rowsAre = t .0; valid = t .2; small = omega (arith, g .size, g .small); room = rw (far-is h) (omega (arith, g .mark, g .room, g .inside)) }
+      record { rowsAre = t .0; valid = t .2; small = omega (arith, g .size, g .small); ends = omega (arith, g .mark, g .small, g .inside); room = rw (far-is h) (omega (arith, g .mark, g .room, g .inside)) }
 
   -- the marks are at their place
   pub marked : (d₁ : List ℕ) → (m ≤ nearMost → d₁ ≡ d) → (nearMost < m → (v : Tree) → Markable w d (n - m) v → d₁ ≡ sets d (n - m) (marks v)) → d₁ ≡ sets b (n - m) (marks (g .tree))

@@ -90,7 +90,7 @@ taken c k n = if (boxes (styleOf k) n) (entered c k (countIn n)) (beyond c (bare
 abbrev pub stacked : (stack : List ℕ) → Point → (kind number : ℕ) → List ℕ
 stacked st c k n = if (boxes (styleOf k) n) (sets st (c .top) (c .size ∷ c .mark ∷ due (c .left - 1) (c .elements) ∷ [])) st
 
--- A row is due, it is no described value among elements, its numbers have room on the stack, and its sums fit
+-- A row is due, it is no described value among elements, its numbers have room on the stack and fit 32 bits there, and its sums fit
 pub record Ready (words : List ℕ) (c : Point) : Type 0 where
   pub here : 2 * (c .row) + 2 ≤ length words
   pub some : 0 < c .left
@@ -98,8 +98,8 @@ pub record Ready (words : List ℕ) (c : Point) : Type 0 where
   pub room : c .top + 3 ≤ 3 * levelMost
   pub small : c .size + letters (styleOf (kindOn words c)) (numberOn words c) ≤ most
   pub row : c .row + 1 < 2 ^ 64
-  pub mark : c .mark + 3 < 2 ^ 64
-  pub left : c .left < 2 ^ 62
+  pub mark : c .mark + 3 < 2 ^ 32
+  pub left : c .left < 2 ^ 31
 
 -- No row is due, the numbers of a compound are on the stack, and its mark has its place
 pub record Complete (stack out : List ℕ) (c : Point) : Type 0 where
@@ -107,14 +107,16 @@ pub record Complete (stack out : List ℕ) (c : Point) : Type 0 where
   pub deep : c .top ≤ 3 * levelMost
   pub start : startOn stack (c .top) ≤ c .size
   pub place : placeOn stack (c .top) + 3 ≤ length out
+  pub left : leftOn stack (c .top) < 2 ^ 31
   pub small : c .size ≤ most
 
--- A table whose marks have room from m on
+-- A table whose marks have room from m on, and end within the longest table's bytes
 pub record Markable (words o : List ℕ) (m : ℕ) (v : Tree) : Type 0 where
   pub rowsAre : words ≡ rows v
   pub valid : Valid levelMost any v
   pub small : length (encode v) ≤ most
   pub room : m + length (marks v) ≤ length o
+  pub ends : m + length (marks v) ≤ most
 
 pub record Tabled (words o : List ℕ) (m : ℕ) : Type 0 where
   pub tree : Tree

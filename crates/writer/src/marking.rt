@@ -22,7 +22,7 @@ use crate::head;
 use crate::put;
 use standard::kind;
 
-// Three numbers for each of 32 levels.
+// Three numbers for each of 32 levels. Every number is below 2^22, so 32 bits are enough for it and the stack stays small.
 const STACK: usize = 96;
 
 // The next row, the bytes before it, the next mark, how many rows are due before the innermost open compound ends, whether they are
@@ -142,14 +142,14 @@ fn box_width(elements: bool, array: bool, children: usize) -> usize
 
 // A list, a map or an array begins. The rows due behind it and what they are go onto the stack as one number: twice as many, and 1 more
 // for elements.
-fn open(stack: &mut [usize; STACK], c: Point, kind: u64, count: usize) -> Point
-    requires { ⌜ (c .top + 3 ≤ 3 * levelMost) × (0 < c .left) × (c .left < 2 ^ 62) × (c .row + 1 < 2 ^ 64) × (c .mark + 3 < 2 ^ 64) ⌝ }
+fn open(stack: &mut [u32; STACK], c: Point, kind: u64, count: usize) -> Point
+    requires { ⌜ (c .top + 3 ≤ 3 * levelMost) × (0 < c .left) × (c .left < 2 ^ 31) × (c .row + 1 < 2 ^ 64) × (c .size < 2 ^ 32) × (c .mark + 3 < 2 ^ 32) ⌝ }
     ensures { λ r. ⌜ (r ≡ entered c kind count) × (now (stack .exit) ≡ sets (now (stack .entry)) (c .top) (c .size ∷ c .mark ∷ due (c .left - 1) (c .elements) ∷ [])) ⌝ }
 {
     let top = c.top;
-    stack[top] = c.size;
-    stack[top + 1] = c.mark;
-    stack[top + 2] = 2 * (c.left - 1) + c.elements as usize;
+    stack[top] = c.size as u32;
+    stack[top + 1] = c.mark as u32;
+    stack[top + 2] = (2 * (c.left - 1) + c.elements as usize) as u32;
     Point {
         row: c.row + 1,
         size: c.size,
@@ -161,15 +161,15 @@ fn open(stack: &mut [usize; STACK], c: Point, kind: u64, count: usize) -> Point
 }
 
 // The innermost list, map or array ends.
-fn close(stack: &[usize; STACK], out: &mut [u8], c: Point) -> Point
+fn close(stack: &[u32; STACK], out: &mut [u8], c: Point) -> Point
     requires { ⌜ Complete (now stack) (now out) c ⌝ }
     ensures { λ r. ⌜ (r ≡ closed (now (stack .entry)) c)
         × (now (out .exit) ≡ sets (now (out .entry)) (placeOn (now (stack .entry)) (c .top)) (be 3 (c .size - startOn (now (stack .entry)) (c .top)))) ⌝ }
 {
     let top = c.top - 3;
-    let children = c.size - stack[top];
-    put::put_three(out, stack[top + 1], children as u64);
-    let left = stack[top + 2];
+    let children = c.size - stack[top] as usize;
+    put::put_three(out, stack[top + 1] as usize, children as u64);
+    let left = stack[top + 2] as usize;
     let elements = left % 2 == 1;
     Point {
         row: c.row,
@@ -182,7 +182,7 @@ fn close(stack: &[usize; STACK], out: &mut [u8], c: Point) -> Point
 }
 
 // The next row. Most values go by their kind at once, as in sizing.
-fn take_row(words: &[u64], stack: &mut [usize; STACK], c: Point) -> Point
+fn take_row(words: &[u64], stack: &mut [u32; STACK], c: Point) -> Point
     requires { ⌜ Ready (now words) c ⌝ }
     ensures { λ r. ⌜ (r ≡ taken c (kindOn (now (words .entry)) c) (numberOn (now (words .entry)) c))
         × (now (stack .exit) ≡ stacked (now (stack .entry)) c (kindOn (now (words .entry)) c) (numberOn (now (words .entry)) c)) ⌝ }
@@ -222,7 +222,7 @@ pub(crate) fn mark_table(words: &[u64], out: &mut [u8], mark: usize)
     requires { ⌜ Tabled (now words) (now out) mark ⌝ }
     ensures { λ _. ⌜ ((v : Tree) → Markable (now (words .entry)) (now (out .entry)) mark v → now (out .exit) ≡ sets (now (out .entry)) mark (marks v)) ⌝ }
 {
-    let mut stack = [0usize; STACK];
+    let mut stack = [0u32; STACK];
     let mut c = Point::new(mark);
     while 0 < c.left + c.top {
         if c.left == 0 {
