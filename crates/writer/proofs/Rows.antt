@@ -653,9 +653,17 @@ again (going {kind = k} {us = us} {vs = vs} d) = record {
 }
 
 -- a table of which some rows are written
-pub table-again : (words letters out : List ℕ) (n mark : ℕ) (v : Tree) → Fillable words letters out n mark v → (a : List ℕ) (r : Cursor) → Run words letters out n (fresh mark) a r
-    → Again words letters (sets out 0 (encode* (more v none) ++ payloads none)) (beyond (fresh mark) (more v none) none) n n a r
-table-again words letters out n mark v f a r g = again (g .left _ _ n (rows-due (begin words letters out n mark v f)))
+module _ (words letters out : List ℕ) (n mark : ℕ) (v : Tree) (f : Fillable words letters out n mark v) (a : List ℕ) (r : Cursor) (g : Run words letters out n (fresh mark) a r) where
+  table-left : Going words letters (sets out 0 (encode* (more v none) ++ payloads none)) (beyond (fresh mark) (more v none) none) n true n a r
+  table-left = g .left _ _ n (rows-due (begin words letters out n mark v f))
+
+  pub table-again : Again words letters (sets out 0 (encode* (more v none) ++ payloads none)) (beyond (fresh mark) (more v none) none) n n a r
+  table-again = again table-left
+
+  -- or all
+  pub table-done : n ≤ r .at → a ≡ sets out 0 (encode v)
+  unfolding encode* payloads
+  table-done h = finished table-left h .0 ∙ simp append-nil
 
 -- all of it is the value's bytes
 pub table-filled : (out : List ℕ) (mark : ℕ) (v : Tree) (a : List ℕ) (r : Cursor) → Filled out (fresh mark) (more v none) none a r → a ≡ sets out 0 (encode v)

@@ -380,5 +380,7 @@ pub(crate) fn fill(words: &[u64], text: &[u8], out: &mut [u8], n: usize, mark: u
     ensures { λ _. ⌜ ((v : Tree) → Fillable (now (words .entry)) (now (text .entry)) (now (out .entry)) n mark v → now (out .exit) ≡ sets (now (out .entry)) 0 (encode v)) ⌝ }
 {
     let c = fill_values(words, text, out, n, Cursor::new(mark));
-    fill_rows(words, text, out, n, n, c);
+    if c.at < n {
+        fill_rows(words, text, out, n, n, c);
+    }
 }
