@@ -47,7 +47,7 @@
  *
  * Nothing is allocated, nothing is kept between calls and no pointer is held, so calls from any number of threads are
  * independent of each other, as long as none fills memory that another uses. The need of stack is bounded, because the nesting of
- * values ends at the level limit: on x86-64 it was measured as less than 9 KiB at 16 and less than 15 KiB at 32. */
+ * values ends at the level limit: on x86-64 and on Arm it was measured as less than 6 KiB at 16 and less than 12 KiB at 32. */
 #ifndef AFSUNGAR_H
 #define AFSUNGAR_H
 
