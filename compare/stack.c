@@ -1,4 +1,4 @@
-/* stack: how many bytes of stack each function takes at the most, within 16 levels and within 32, over values that are nested as deep as the limit allows, and over the
+/* stack: how many bytes of stack each function takes at the most, with no limit named, within 16 levels and within 32, over values that are nested as deep as the limit allows, and over the
  * same in a list, which are refused. Each call runs on memory of its own that is filled with a pattern, twice with two patterns; what is changed in it was used. Prints a
  * line a function (compare/stack). */
 #include <stdio.h>
@@ -64,13 +64,16 @@ static void enclose(void) {
 
 /* The functions. */
 
-static uint64_t size(void) { return afsungar_size_within(limit, words, word_count, text, letters_in(), &place, &length); }
-static uint64_t write(void) { return afsungar_write_within(limit, words, word_count, text, letters_in(), out, BYTES, &place, &length); }
-static uint64_t measure(void) { return afsungar_measure_within(limit, bytes, byte_count, &place, &length, &count, &used); }
-static uint64_t read(void) { return afsungar_read_within(limit, bytes, byte_count, rows, WORDS, letters, sizeof letters, &place, &length, &count, &used); }
+static int is_plain; /* the form that names no limit */
+#define CALL(function, ...) (is_plain ? function(__VA_ARGS__) : function##_within(limit, __VA_ARGS__))
+
+static uint64_t size(void) { return CALL(afsungar_size, words, word_count, text, letters_in(), &place, &length); }
+static uint64_t write(void) { return CALL(afsungar_write, words, word_count, text, letters_in(), out, BYTES, &place, &length); }
+static uint64_t measure(void) { return CALL(afsungar_measure, bytes, byte_count, &place, &length, &count, &used); }
+static uint64_t read(void) { return CALL(afsungar_read, bytes, byte_count, rows, WORDS, letters, sizeof letters, &place, &length, &count, &used); }
 static uint64_t step(void) {
     at = 0;
-    return afsungar_step_within(limit, bytes, byte_count, &at, &place, &length);
+    return CALL(afsungar_step, bytes, byte_count, &at, &place, &length);
 }
 
 static const struct {
@@ -133,12 +136,15 @@ static size_t most(uint64_t (*call)(void), const char **shape) {
 int main(void) {
     memset(text, 'a', sizeof text);
     for (size_t i = 0; i < sizeof functions / sizeof *functions; i++) {
-        const char *few, *many;
-        limit = AFSUNGAR_LEVELS_DEFAULT;
-        size_t at_default = most(functions[i].call, &few);
-        limit = AFSUNGAR_LEVELS_MOST;
-        size_t at_most = most(functions[i].call, &many);
-        printf("| %s | %zu (%s) | %zu (%s) |\n", functions[i].name, at_default, few, at_most, many);
+        const char *shape = shapes[0];
+        printf("| %s ", functions[i].name);
+        for (int form = 0; form < 3; form++) {
+            is_plain = form == 0;
+            limit = form == 2 ? AFSUNGAR_LEVELS_MOST : AFSUNGAR_LEVELS_DEFAULT;
+            size_t n = most(functions[i].call, &shape);
+            printf("| %zu (%s) ", n, shape);
+        }
+        puts("|");
     }
     return 0;
 }

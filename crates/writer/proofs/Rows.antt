@@ -560,7 +560,7 @@ module _ {words text goal : List ℕ} {stop : Cursor} {end : ℕ} {boxed : Bool}
     finished (going {us = none} {vs = none} d) h = (d .bytes, same-place (omega arith) (omega arith) (omega arith) (omega arith) ∙ d .place)
 
     -- where a value is due, the end is not reached
-    pub last-first : Going words text goal stop end boxed last out c → c .at < last → c .at < end
+    last-first : Going words text goal stop end boxed last out c → c .at < last → c .at < end
     last-first (going {us = none} d) h = absurd (omega (arith, d .lasts))
     last-first (going {us = more v us} {vs = vs} d) h = omega (arith, d .ends, value-long (d .pending), length-append (encode* (more v us)) (payloads vs))
 
@@ -595,6 +595,7 @@ module _ {words text out₀ : List ℕ} {last : ℕ} {c₀ : Cursor} {out : List
   ran-end f = record {
     onward = ⊎-elim (λ e. rw e (omega arith)) (λ e. omega arith) (n .moved);
     moved = λ h i. ⊎-elim (λ e. absurd (i (rw e (f (rw e at h))))) (λ e. e) (n .moved);
+    ends = f;
     left = n .left;
   }
 

@@ -87,6 +87,7 @@ module _ (w x : List ℕ) (n m : ℕ) (b d : List ℕ) (g : Writable w x n m b d
     all-bytes d₂ f = f (g .tree) fillable ∙ rw (e, g .isTable) (covered b (n - m) (marks (g .tree)) (encode (g .tree)) (omega (arith, g .mark, g .size, g .inside)) (omega (arith, g .size, g .room)))
 
 -- A table that fits can be written
+
 -- at the highest limit it is the same
 fits-most : (l : ℕ) (w x b a : List ℕ) (e : Extent) (f : Fitting l w x b a e) → table levelMost w x ≡ got (f .tree)
 fits-most l w x b a e f = table-more l levelMost w x (f .tree) (limit-most l (f .named)) (f .isTable)

@@ -133,10 +133,11 @@ pub record Left (words text goal : List ℕ) (stop : Cursor) (end : ℕ) (boxed 
 pub data Going (words text goal : List ℕ) (stop : Cursor) (end : ℕ) (boxed : Bool) (last : ℕ) (out : List ℕ) (c : Cursor) : Type 0 where
   going : {kind : ℕ} {us vs : Trees} → Left words text goal stop end boxed last out c kind us vs → Going words text goal stop end boxed last out c
 
--- from a cursor on to another, where values up to `last` are due: whatever was due at the one is due at the other, and a value in front that is no array is behind it
+-- from a cursor on to another, where values up to `last` are due: whatever was due at the one is due at the other, a value in front that is no array is behind it, and it ends at `last` or at an array
 pub record Run (words text out : List ℕ) (last : ℕ) (c : Cursor) (after : List ℕ) (r : Cursor) : Type 0 where
   pub onward : c .row ≤ r .row
   pub moved : c .at < last → ¬ (kindAt words c ≡ 0xf0) → c .row < r .row
+  pub ends : r .at < last → kindAt words r ≡ 0xf0
   pub left : (goal : List ℕ) (stop : Cursor) (end : ℕ) → Going words text goal stop end true last out c → Going words text goal stop end true last after r
 
 -- something is due
