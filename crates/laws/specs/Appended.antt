@@ -7,12 +7,13 @@ use native.Mathlib.Omega.{arith}
 use lib.Dec.{leb, leb→le, le→leb}
 use lib.ListN.{length, take, drop, length-append}
 use lib.Seq.{take-append-le, drop-append-le}
-use Rattle.standard.specs.Answer.{Answer, got, refuse, Place, at, _>>=_, _>>_, need, inputShort, sizeAmiss, payloadBad}
+use Rattle.standard.specs.Answer.{Answer, got, refuse, Place, at, byte, _>>=_, _>>_, need, inputShort, sizeAmiss, payloadBad}
 use Rattle.standard.specs.Bytes.{unbe}
+use Rattle.standard.specs.Text.{placeIn}
 use Rattle.standard.specs.Tree.{Tree}
 use Rattle.standard.specs.Codes.{Scalar, constant, whole, small, raw, sized, Layout, unknown, described, scalar, compound, array, layoutOf, kindOf}
-use Rattle.standard.specs.Kinds.{fair, clean, paired}
-use Rattle.standard.specs.Read.{cut, plain, leaf, many, done, fields, held, inside, coded, behind, payload, value, front}
+use Rattle.standard.specs.Kinds.{fair, flaw, clean, paired}
+use Rattle.standard.specs.Read.{cut, plain, ahead, leaf, many, done, fields, held, inside, coded, behind, payload, value, settled, front}
 use Rattle.standard.specs.Facts.{T-true}
 
 -- two answers: related, or the same refusal, or the first is 9
@@ -58,7 +59,7 @@ module _ (s : List ℕ) where
 
   leaf-ext : (c : Scalar) (k p : ℕ) (r : List ℕ) → Ext (More s) (leaf c k p r) (leaf c k p (r ++ s))
   unfolding leaf
-  leaf-ext c k p r = ext (plain-ext c p r) (λ x y e. rw e (ext (ext-refl (need (fair k (x .0)) payloadBad (at p))) (λ a b f. ext (ext-refl (need (clean k (x .1)) payloadBad (at p))) (λ a b f. both refl))))
+  leaf-ext c k p r = ext (plain-ext c p r) (λ x y e. rw e (ext (ext-refl (need (fair k (x .0)) payloadBad (at p))) (λ a b f. ext (ext-refl (need (clean k (x .1)) payloadBad (byte (p + 1 + ahead c + placeIn (flaw k (x .1)))))) (λ a b f. both refl))))
 
   far : (r z : List ℕ) → length (r ++ s) - length (z ++ s) ≡ length r - length z
   far r z = simp length-append (omega arith)
@@ -99,6 +100,12 @@ module _ (s : List ℕ) where
   unfolding value
   value-ext l p r = coded-ext (λ e q z. payload l e q z) (payload-ext l) l p r
 
+settled-ext : {A : Type 0} {R : A → A → Type 0} {m n : Answer A} → Ext R m n → Ext R (settled m) (settled n)
+unfolding settled
+settled-ext (both r) = both r
+settled-ext same = same
+settled-ext open′ = open′
+
 ext-no : {A : Type 0} {R : A → A → Type 0} {m n : Answer A} (x : ℕ) (q : Place) → Ext R m n → m ≡ refuse x q → ¬ (x ≡ inputShort) → n ≡ refuse x q
 ext-no x q (both r) e h = cc
 ext-no x q same e h = e
@@ -107,4 +114,4 @@ ext-no x q open′ e h = let i : x ≡ inputShort = cc in absurd (h i)
 -- a refusal other than 9 stands, with its place, whatever is put behind the bytes
 pub stands : (l x : ℕ) (q : Place) (r s : List ℕ) → front l r ≡ refuse x q → ¬ (x ≡ inputShort) → front l (r ++ s) ≡ refuse x q
 unfolding front
-stands l x q r s e h = ext-no x q (value-ext s l 0 r) e h
+stands l x q r s e h = ext-no x q (settled-ext (value-ext s l 0 r)) e h

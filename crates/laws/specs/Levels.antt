@@ -7,13 +7,14 @@ use native.Mathlib.Decide.{le-ind}
 use native.Mathlib.Omega.{arith}
 use lib.Dec.{T, eqb, leb, leb→le}
 use lib.ListN.{length, drop}
-use Rattle.standard.specs.Answer.{Answer, got, refuse, Place, at, _>>=_, _>>_, need, rowsAmiss, kindUnknown, tooDeep, elementUnfit, numberOutside, textAmiss, codeUnknown, sizeAmiss, limitOutside}
+use Rattle.standard.specs.Answer.{Answer, got, refuse, Place, at, byte, _>>=_, _>>_, need, rowsAmiss, kindUnknown, tooDeep, elementUnfit, numberOutside, textAmiss, codeUnknown, sizeAmiss, limitOutside}
 use Rattle.standard.specs.Choose.{if}
+use Rattle.standard.specs.Text.{placeIn}
 use Rattle.standard.specs.Tree.{Tree, Trees}
 use Rattle.standard.specs.Codes.{Layout, unknown, described, scalar, compound, array, layoutOf, kindOf, isCode, element}
-use Rattle.standard.specs.Kinds.{styleOf, isKind, clean, paired}
+use Rattle.standard.specs.Kinds.{styleOf, isKind, flaw, clean, paired}
 use Rattle.standard.specs.Grammar.{Many, none′, more′, Coded, coded′, Items, empty′, items′, Shape, scalar′, described′, compound′, array′, Payload, Form, Formed}
-use Rattle.standard.specs.Read.{many, fields, held, items, inside, coded, behind, payload, value, front}
+use Rattle.standard.specs.Read.{many, fields, held, items, inside, coded, behind, payload, value, settled, front}
 use Rattle.standard.specs.Table.{Spot, any, allowed, naming, ranged, letters, children, spotIn, letter, several, row, tree, table}
 use Rattle.standard.specs.Facts.{T-true, and-right}
 use Rattle.standard.specs.Outcomes.{levelLeast, levelMost, levelDefault, inForce, bytesOf, size, writtenTo, write, Extent, arrived, measure, readInto, read, Step, end, part, refused, stepped, stepIn, step}
@@ -81,7 +82,15 @@ held-higher : {A : Type 0} (p : ℕ) {m n : Answer A} → Higher m n → Higher 
 unfolding held
 held-higher p same = same
 held-higher p (deep {q = at q}) = deep
+held-higher p (deep {q = byte q}) = deep
 held-higher p (outside {q = at q}) = outside
+held-higher p (outside {q = byte q}) = outside
+
+settled-higher : {A : Type 0} {m n : Answer A} → Higher m n → Higher (settled m) (settled n)
+unfolding settled
+settled-higher same = same
+settled-higher deep = deep
+settled-higher outside = outside
 
 module _ (f g : ℕ → ℕ → List ℕ → Answer (Tree × List ℕ)) (h : (c p : ℕ) (r : List ℕ) → Higher (f c p r) (g c p r)) where
   items-higher : (q n e : ℕ) (r : List ℕ) → Higher (items f q n e r) (items g q n e r)
@@ -117,34 +126,34 @@ payload-higher (suc l) c p r = behind-higher (λ e q s. payload l e q s) (λ e q
 
 front-suc : (l : ℕ) (r : List ℕ) → Higher (front l r) (front (suc l) r)
 unfolding front value
-front-suc l r = coded-higher (λ e q s. payload l e q s) (λ e q s. payload (suc l) e q s) (payload-higher l) l 0 r
+front-suc l r = settled-higher (coded-higher (λ e q s. payload l e q s) (λ e q s. payload (suc l) e q s) (payload-higher l) l 0 r)
 
 pub front-higher : (l m : ℕ) (r : List ℕ) → l ≤ m → Higher (front l r) (front m r)
 front-higher l m r i = le-ind (λ n. Higher (front l r) (front n r)) same (λ n j h. further h (front-suc n r)) m i
 
 -- Tables
 
-several-higher : (f g : Spot → ℕ → List ℕ → List ℕ → Answer (Tree × List ℕ × List ℕ)) → ((c : Spot) (i : ℕ) (w x : List ℕ) → Higher (f c i w x) (g c i w x))
-    → (n : ℕ) (c : Spot) (i : ℕ) (w x : List ℕ) → Higher (several f c n i w x) (several g c n i w x)
+several-higher : (f g : Spot → ℕ → ℕ → List ℕ → List ℕ → Answer (Tree × List ℕ × List ℕ)) → ((c : Spot) (i j : ℕ) (w x : List ℕ) → Higher (f c i j w x) (g c i j w x))
+    → (n : ℕ) (c : Spot) (i j : ℕ) (w x : List ℕ) → Higher (several f c n i j w x) (several g c n i j w x)
 unfolding several
-several-higher f g h zero c i w x = same
-several-higher f g h (suc n) c i w x = then (h c i w x) (λ a. then (several-higher f g h n c (i + (length w - length (a .1)) / 2) (a .1) (a .2)) (λ b. same))
+several-higher f g h zero c i j w x = same
+several-higher f g h (suc n) c i j w x = then (h c i j w x) (λ a. then (several-higher f g h n c (i + (length w - length (a .1)) / 2) (j + (length x - length (a .2))) (a .1) (a .2)) (λ b. same))
 
-tree-higher : (l : ℕ) (c : Spot) (i : ℕ) (w x : List ℕ) → Higher (tree l c i w x) (tree (suc l) c i w x)
+tree-higher : (l : ℕ) (c : Spot) (i j : ℕ) (w x : List ℕ) → Higher (tree l c i j w x) (tree (suc l) c i j w x)
 unfolding tree row
-tree-higher zero c i [] x = same
-tree-higher zero c i (k ∷ []) x = same
-tree-higher zero c i (k ∷ n ∷ w) x = after (need (isKind (styleOf k)) kindUnknown (at i)) (λ u. deep)
-tree-higher (suc l) c i [] x = same
-tree-higher (suc l) c i (k ∷ []) x = same
-tree-higher (suc l) c i (k ∷ n ∷ w) x = after (need (isKind (styleOf k)) kindUnknown (at i)) (λ u.
+tree-higher zero c i j [] x = same
+tree-higher zero c i j (k ∷ []) x = same
+tree-higher zero c i j (k ∷ n ∷ w) x = after (need (isKind (styleOf k)) kindUnknown (at i)) (λ u. deep)
+tree-higher (suc l) c i j [] x = same
+tree-higher (suc l) c i j (k ∷ []) x = same
+tree-higher (suc l) c i j (k ∷ n ∷ w) x = after (need (isKind (styleOf k)) kindUnknown (at i)) (λ u.
     after (need (allowed c k) elementUnfit (at i)) (λ u. after (need (naming (spotIn (styleOf k) n)) elementUnfit (at i)) (λ u. after (need (ranged (styleOf k) k n) numberOutside (at i)) (λ u.
-    after (letter i (letters (styleOf k) n) x) (λ a. after (need (clean k (a .0)) textAmiss (at i)) (λ u.
-    then (several-higher (λ d j u y. tree l d j u y) (λ d j u y. tree (suc l) d j u y) (tree-higher l) (children (styleOf k) n) (spotIn (styleOf k) n) (i + 1) w (a .1)) (λ b. same)))))))
+    after (letter i (letters (styleOf k) n) x) (λ a. after (need (clean k (a .0)) textAmiss (at (j + placeIn (flaw k (a .0))))) (λ u.
+    then (several-higher (λ d m o u y. tree l d m o u y) (λ d m o u y. tree (suc l) d m o u y) (tree-higher l) (children (styleOf k) n) (spotIn (styleOf k) n) (i + 1) (j + length (a .0)) w (a .1)) (λ b. same)))))))
 
 table-suc : (l : ℕ) (w x : List ℕ) → Higher (table l w x) (table (suc l) w x)
 unfolding table
-table-suc l w x = after (need (eqb (length w % 2) 0) rowsAmiss (at 0)) (λ u. then (tree-higher l any 0 w x) (λ a. same))
+table-suc l w x = after (need (eqb (length w % 2) 0) rowsAmiss (at 0)) (λ u. then (tree-higher l any 0 0 w x) (λ a. same))
 
 pub table-higher : (l m : ℕ) (w x : List ℕ) → l ≤ m → Higher (table l w x) (table m w x)
 table-higher l m w x i = le-ind (λ n. Higher (table l w x) (table n w x)) same (λ n j h. further h (table-suc n w x)) m i

@@ -7,6 +7,7 @@ pub mod ShutOut
 pub mod Numbers
 pub mod Sequences
 pub mod Answers
+pub mod Texts
 pub mod Complete
 pub mod Sound
 pub mod Unique

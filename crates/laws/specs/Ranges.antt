@@ -7,12 +7,13 @@ use mathlib.Core.Bool.{Bool, true, false, _||_}
 use native.Mathlib.Omega.{arith}
 use lib.Dec.{T, eqb, leb}
 use lib.ListN.{length, drop, length-append}
-use Rattle.standard.specs.Answer.{Answer, got, refuse, Place, at, _>>=_, need, rowsAmiss, kindUnknown, tooDeep, elementUnfit, numberOutside, textAmiss, tooLong, outputShort, inputShort, codeUnknown, payloadBad, sizeAmiss, rowsShort, textShort}
+use Rattle.standard.specs.Answer.{Answer, got, refuse, Place, at, byte, _>>=_, need, rowsAmiss, kindUnknown, tooDeep, elementUnfit, numberOutside, textAmiss, tooLong, outputShort, inputShort, codeUnknown, payloadBad, sizeAmiss, rowsShort, textShort}
 use Rattle.standard.specs.Bytes.{unbe}
+use Rattle.standard.specs.Text.{placeIn}
 use Rattle.standard.specs.Tree.{Tree, node, tall, text}
 use Rattle.standard.specs.Codes.{Scalar, constant, whole, small, raw, sized, Layout, unknown, described, scalar, compound, array, layoutOf, kindOf, isCode, element}
-use Rattle.standard.specs.Kinds.{styleOf, isKind, fair, clean, paired}
-use Rattle.standard.specs.Read.{cut, plain, leaf, many, done, fields, held, items, inside, coded, behind, payload, value, front}
+use Rattle.standard.specs.Kinds.{styleOf, isKind, fair, flaw, clean, paired}
+use Rattle.standard.specs.Read.{cut, plain, ahead, leaf, many, done, fields, held, items, inside, coded, behind, payload, value, settled, front}
 use Rattle.standard.specs.Table.{most, Spot, any, allowed, naming, ranged, letters, children, spotIn, letter, several, row, tree, spent, table}
 use Rattle.standard.specs.Encode.{encode}
 use Rattle.standard.specs.Outcomes.{inForce, Extent, extent, bytesOf, size, writtenTo, write, arrived, measure, readInto, read, Step, end, part, refused, stepped, stepIn, step}
@@ -73,25 +74,25 @@ unfolding letter
 letter-range i w x = then (needed (leb w (length x)) textAmiss (at i) tt) (λ u. value′)
 
 -- f refuses with these alone
-abbrev Takes : (Spot → ℕ → List ℕ → List ℕ → Answer (Tree × List ℕ × List ℕ)) → Type 0
-Takes f = (c : Spot) (i : ℕ) (w x : List ℕ) → Within ofSize (f c i w x)
+abbrev Takes : (Spot → ℕ → ℕ → List ℕ → List ℕ → Answer (Tree × List ℕ × List ℕ)) → Type 0
+Takes f = (c : Spot) (i j : ℕ) (w x : List ℕ) → Within ofSize (f c i j w x)
 
-several-range : (f : Spot → ℕ → List ℕ → List ℕ → Answer (Tree × List ℕ × List ℕ)) → Takes f → (n : ℕ) (c : Spot) (i : ℕ) (w x : List ℕ) → Within ofSize (several f c n i w x)
+several-range : (f : Spot → ℕ → ℕ → List ℕ → List ℕ → Answer (Tree × List ℕ × List ℕ)) → Takes f → (n : ℕ) (c : Spot) (i j : ℕ) (w x : List ℕ) → Within ofSize (several f c n i j w x)
 unfolding several
-several-range f g zero c i w x = value′
-several-range f g (suc n) c i w x = then (g c i w x) (λ a. then (several-range f g n c (i + (length w - length (a .1)) / 2) (a .1) (a .2)) (λ b. value′))
+several-range f g zero c i j w x = value′
+several-range f g (suc n) c i j w x = then (g c i j w x) (λ a. then (several-range f g n c (i + (length w - length (a .1)) / 2) (j + (length x - length (a .2))) (a .1) (a .2)) (λ b. value′))
 
-tree-range : (l : ℕ) → Takes (λ c i w x. tree l c i w x)
+tree-range : (l : ℕ) → Takes (λ c i j w x. tree l c i j w x)
 unfolding tree row
-tree-range zero c i [] x = refusal′ tt
-tree-range zero c i (k ∷ []) x = refusal′ tt
-tree-range zero c i (k ∷ n ∷ w) x = then (needed (isKind (styleOf k)) kindUnknown (at i) tt) (λ u. refusal′ tt)
-tree-range (suc l) c i [] x = refusal′ tt
-tree-range (suc l) c i (k ∷ []) x = refusal′ tt
-tree-range (suc l) c i (k ∷ n ∷ w) x =
+tree-range zero c i j [] x = refusal′ tt
+tree-range zero c i j (k ∷ []) x = refusal′ tt
+tree-range zero c i j (k ∷ n ∷ w) x = then (needed (isKind (styleOf k)) kindUnknown (at i) tt) (λ u. refusal′ tt)
+tree-range (suc l) c i j [] x = refusal′ tt
+tree-range (suc l) c i j (k ∷ []) x = refusal′ tt
+tree-range (suc l) c i j (k ∷ n ∷ w) x =
     then (needed (isKind (styleOf k)) kindUnknown (at i) tt) (λ u. then (needed (allowed c k) elementUnfit (at i) tt) (λ u. then (needed (naming (spotIn (styleOf k) n)) elementUnfit (at i) tt) (λ u. then (needed (ranged (styleOf k) k n) numberOutside (at i) tt) (λ u.
-    then (letter-range i (letters (styleOf k) n) x) (λ a. then (needed (clean k (a .0)) textAmiss (at i) tt) (λ u.
-    then (several-range (λ c i w x. tree l c i w x) (tree-range l) (children (styleOf k) n) (spotIn (styleOf k) n) (i + 1) w (a .1)) (λ b. value′)))))))
+    then (letter-range i (letters (styleOf k) n) x) (λ a. then (needed (clean k (a .0)) textAmiss (at (j + placeIn (flaw k (a .0)))) tt) (λ u.
+    then (several-range (λ c i j w x. tree l c i j w x) (tree-range l) (children (styleOf k) n) (spotIn (styleOf k) n) (i + 1) (j + length (a .0)) w (a .1)) (λ b. value′)))))))
 
 spent-range : {xs : List ℕ} (a i : ℕ) (r : List ℕ) → T (among xs a) → Within xs (spent a i r)
 unfolding spent
@@ -100,7 +101,7 @@ spent-range a i (b ∷ r) h = refusal′ h
 
 table-range : (l : ℕ) (w x : List ℕ) → Within ofSize (table l w x)
 unfolding table
-table-range l w x = then (needed (eqb (length w % 2) 0) rowsAmiss (at 0) tt) (λ u. then (tree-range l any 0 w x) (λ a. then (spent-range rowsAmiss ((length w - length (a .1)) / 2) (a .1) tt) (λ u. then (spent-range textAmiss (length w / 2) (a .2) tt) (λ u. value′))))
+table-range l w x = then (needed (eqb (length w % 2) 0) rowsAmiss (at 0) tt) (λ u. then (tree-range l any 0 0 w x) (λ a. then (spent-range rowsAmiss ((length w - length (a .1)) / 2) (a .1) tt) (λ u. then (spent-range textAmiss (length w / 2) (a .2) tt) (λ u. value′))))
 
 bytes-range : (l : ℕ) (w x : List ℕ) → T (inForce l) → Within ofSize (bytesOf l w x)
 unfolding bytesOf
@@ -135,7 +136,7 @@ plain-range (sized w) p r = then (cut-range p w r) (λ x. then (cut-range p (unb
 
 leaf-range : (s : Scalar) (k p : ℕ) (r : List ℕ) → Within ofMeasure (leaf s k p r)
 unfolding leaf
-leaf-range s k p r = then (plain-range s p r) (λ x. then (needed (fair k (x .0)) payloadBad (at p) tt) (λ u. then (needed (clean k (x .1)) payloadBad (at p) tt) (λ u. value′)))
+leaf-range s k p r = then (plain-range s p r) (λ x. then (needed (fair k (x .0)) payloadBad (at p) tt) (λ u. then (needed (clean k (x .1)) payloadBad (byte (p + 1 + ahead s + placeIn (flaw k (x .1)))) tt) (λ u. value′)))
 
 -- f refuses with these alone
 abbrev Reads : (ℕ → List ℕ → Answer (Tree × List ℕ)) → Type 0
@@ -159,6 +160,12 @@ held-range : {A : Type 0} {xs : List ℕ} (p : ℕ) {m : Answer A} → Within xs
 unfolding held
 held-range p value′ = value′
 held-range p (refusal′ {p = at q} h) = refusal′ h
+held-range p (refusal′ {p = byte q} h) = refusal′ h
+
+settled-range : {A : Type 0} {xs : List ℕ} {m : Answer A} → Within xs m → Within xs (settled m)
+unfolding settled
+settled-range value′ = value′
+settled-range (refusal′ h) = refusal′ h
 
 module _ (f : ℕ → ℕ → List ℕ → Answer (Tree × List ℕ)) (g : (c : ℕ) → Reads (f c)) where
   items-range : (q n e : ℕ) (r : List ℕ) → Within ofMeasure (items f q n e r)
@@ -194,7 +201,7 @@ payload-range (suc l) c p r = behind-range (λ e q s. payload l e q s) (payload-
 
 front-range : (l : ℕ) (r : List ℕ) → Within ofMeasure (front l r)
 unfolding front value
-front-range l r = coded-range (λ e q s. payload l e q s) (payload-range l) l 0 r
+front-range l r = settled-range (coded-range (λ e q s. payload l e q s) (payload-range l) l 0 r)
 
 arrived-range : (l : ℕ) (r : List ℕ) → T (inForce l) → Within ofMeasure (arrived l r)
 unfolding arrived

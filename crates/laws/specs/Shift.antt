@@ -6,31 +6,39 @@ use mathlib.Core.Bool.{Bool, true, false}
 use native.Mathlib.Omega.{arith}
 use lib.Dec.{leb}
 use lib.ListN.{length}
-use Rattle.standard.specs.Answer.{Answer, got, refuse, at, _>>=_, _>>_, need, inputShort, sizeAmiss, payloadBad, codeUnknown, elementUnfit}
+use Rattle.standard.specs.Answer.{Answer, got, refuse, at, byte, _>>=_, _>>_, need, inputShort, sizeAmiss, payloadBad, codeUnknown, elementUnfit}
 use Rattle.standard.specs.Bytes.{unbe}
+use Rattle.standard.specs.Text.{placeIn}
 use Rattle.standard.specs.Tree.{Tree}
 use Rattle.standard.specs.Codes.{Scalar, constant, whole, small, raw, sized, Layout, unknown, described, scalar, compound, array, layoutOf, kindOf, isCode, element}
-use Rattle.standard.specs.Kinds.{fair, clean, paired}
-use Rattle.standard.specs.Read.{cut, plain, leaf, many, done, fields, held, items, inside, coded, behind, payload, value}
+use Rattle.standard.specs.Kinds.{fair, flaw, clean, paired}
+use Rattle.standard.specs.Read.{cut, plain, ahead, leaf, many, done, fields, held, items, inside, coded, behind, payload, value}
 
 -- the answer with its place d further on
 unfoldable pub moved : {A : Type 0} → (d : ℕ) → Answer A → Answer A
 moved d (got a) = got a
 moved d (refuse x (at q)) = refuse x (at (d + q))
+moved d (refuse x (byte q)) = refuse x (byte (d + q))
 
 -- the second answer is the first, moved
 data Moved {A : Type 0} (d : ℕ) : Answer A → Answer A → Type 0 where
   same : {a : A} → Moved d (got a) (got a)
   further : {x q : ℕ} → Moved d (refuse x (at q)) (refuse x (at (d + q)))
+  byte-further : {x q : ℕ} → Moved d (refuse x (byte q)) (refuse x (byte (d + q)))
 
 module _ (d : ℕ) where
   then : {A B : Type 0} {m n : Answer A} {k h : A → Answer B} → Moved d m n → ((a : A) → Moved d (k a) (h a)) → Moved d (_>>=_ m k) (_>>=_ n h)
   then (same {a = a}) f = f a
   then further f = further
+  then byte-further f = byte-further
 
   need-moved : (b : Bool) (x p : ℕ) → Moved d (need b x (at p)) (need b x (at (d + p)))
   need-moved true x p = same
   need-moved false x p = further
+
+  byte-moved : (b : Bool) (x p : ℕ) → Moved d (need b x (byte p)) (need b x (byte (d + p)))
+  byte-moved true x p = same
+  byte-moved false x p = byte-further
 
   cut-moved : (p w : ℕ) (r : List ℕ) → Moved d (cut p w r) (cut (d + p) w r)
   unfolding cut
@@ -46,7 +54,9 @@ module _ (d : ℕ) where
 
   leaf-moved : (s : Scalar) (k p : ℕ) (r : List ℕ) → Moved d (leaf s k p r) (leaf s k (d + p) r)
   unfolding leaf
-  leaf-moved s k p r = then (plain-moved s p r) (λ x. then (need-moved (fair k (x .0)) payloadBad p) (λ u. then (need-moved (clean k (x .1)) payloadBad p) (λ u. same)))
+  leaf-moved s k p r = then (plain-moved s p r) (λ x. then (need-moved (fair k (x .0)) payloadBad p) (λ u.
+      let e : d + p + 1 + ahead s + placeIn (flaw k (x .1)) ≡ d + (p + 1 + ahead s + placeIn (flaw k (x .1))) = omega arith in
+      rw e (then (byte-moved (clean k (x .1)) payloadBad (p + 1 + ahead s + placeIn (flaw k (x .1)))) (λ u. same))))
 
   done-moved : (p : ℕ) (r : List ℕ) → Moved d (done p r) (done (d + p) r)
   unfolding done
@@ -61,6 +71,7 @@ module _ (d : ℕ) where
   unfolding held
   held-moved p same = same
   held-moved p further = further
+  held-moved p byte-further = byte-further
 
   many-moved : (f : ℕ → List ℕ → Answer (Tree × List ℕ)) → ((p : ℕ) (r : List ℕ) → Moved d (f p r) (f (d + p) r)) → (n p : ℕ) (r : List ℕ) → Moved d (many f n p r) (many f n (d + p) r)
   unfolding many
@@ -116,6 +127,7 @@ moved-is : {A : Type 0} (d : ℕ) {m n : Answer A} → Moved d m n → n ≡ mov
 unfolding moved
 moved-is d same = refl
 moved-is d further = refl
+moved-is d byte-further = refl
 
 -- a value that begins d further on is the same value, and a refusal's place is d further on
 pub shift : (d l p : ℕ) (r : List ℕ) → value l (d + p) r ≡ moved d (value l p r)

@@ -16,7 +16,7 @@ use Rattle.standard.specs.Codes.{codes, entryOf, isCode}
 use Rattle.standard.specs.Kinds.{kinds, styleOf, isKind, fair, flaw}
 use Rattle.standard.specs.Facts.{T-true}
 use Rattle.standard.specs.Tree.{rows, text, tall}
-use Rattle.standard.specs.Read.{cut, plain, leaf, coded, behind, payload, value, front}
+use Rattle.standard.specs.Read.{cut, plain, ahead, leaf, coded, behind, payload, value, settled, front}
 use Rattle.standard.specs.Table.{allowed, naming, ranged, letters, children, spotIn, letter, several, row, tree, spent, table}
 use Rattle.standard.specs.Encode.{encode, compact, shortest}
 use Rattle.standard.specs.Outcomes.{inForce, over, bytesOf, Writing, writtenTo, write, Extent, arrived, measure, Reading, readInto, read, Step, end, part, Stepping, stepped, stepIn, step}
@@ -99,17 +99,17 @@ abbrev read-row : (kind : ℕ) → Reading
 read-row k = record { answer = got (record { length = 1; rows = 1; text = 0 }); words = k ∷ 0 ∷ []; letters = [] }
 
 null-read : (l : ℕ) → T (inForce l) → read l (0x40 ∷ []) (0 ∷ 0 ∷ []) [] ≡ read-row 0x40
-unfolding read readInto arrived front value payload behind coded leaf plain cut codes entryOf isCode lookup spell fair flaw tall rows text
+unfolding read readInto arrived front settled value payload behind coded leaf ahead plain cut codes entryOf isCode lookup spell fair flaw tall rows text
 null-read zero t = absurd (no-level t)
 null-read (suc k) t = rw (T-true (inForce (suc k)) t)
 
 zero-read : (l : ℕ) → T (inForce l) → read l (0x43 ∷ []) (0 ∷ 0 ∷ []) [] ≡ read-row 0x70
-unfolding read readInto arrived front value payload behind coded leaf plain cut codes entryOf isCode lookup spell fair flaw tall rows text
+unfolding read readInto arrived front settled value payload behind coded leaf ahead plain cut codes entryOf isCode lookup spell fair flaw tall rows text
 zero-read zero t = absurd (no-level t)
 zero-read (suc k) t = rw (T-true (inForce (suc k)) t)
 
 null-measured : (l : ℕ) → T (inForce l) → measure l (0x40 ∷ []) ≡ got (record { length = 1; rows = 1; text = 0 })
-unfolding measure arrived front value payload behind coded leaf plain cut codes entryOf isCode lookup spell fair flaw tall rows text
+unfolding measure arrived front settled value payload behind coded leaf ahead plain cut codes entryOf isCode lookup spell fair flaw tall rows text
 null-measured zero t = absurd (no-level t)
 null-measured (suc k) t = rw (T-true (inForce (suc k)) t)
 
@@ -121,12 +121,12 @@ unfolding two-nulls
 two-nulls-lent = record { each = (lit< tt, (lit< tt, tt)); few = lit< tt }
 
 first-step : (l : ℕ) → T (inForce l) → step l two-nulls 0 ≡ record { answer = part 0 1; at = 1 }
-unfolding two-nulls step stepIn stepped measure arrived front value payload behind coded leaf plain cut codes entryOf isCode lookup spell fair flaw tall rows text
+unfolding two-nulls step stepIn stepped measure arrived front settled value payload behind coded leaf ahead plain cut codes entryOf isCode lookup spell fair flaw tall rows text
 first-step zero t = absurd (no-level t)
 first-step (suc k) t = rw (T-true (inForce (suc k)) t)
 
 pub second-step : (l : ℕ) → T (inForce l) → step l two-nulls 1 ≡ record { answer = part 1 1; at = 2 }
-unfolding two-nulls step stepIn stepped measure arrived front value payload behind coded leaf plain cut codes entryOf isCode lookup spell fair flaw tall rows text
+unfolding two-nulls step stepIn stepped measure arrived front settled value payload behind coded leaf ahead plain cut codes entryOf isCode lookup spell fair flaw tall rows text
 second-step zero t = absurd (no-level t)
 second-step (suc k) t = rw (T-true (inForce (suc k)) t)
 

@@ -6,25 +6,30 @@ use native.Mathlib.Omega.{arith}
 use lib.ListN.{length, take, length-append}
 use lib.Seq.{take-append-seam, take-at}
 use lib.Dec.{T}
-use Rattle.standard.specs.Answer.{got, at, limitOutside}
+use Rattle.standard.specs.Answer.{Answer, got, at, limitOutside}
 use Rattle.standard.specs.Tree.{Tree}
 use Rattle.standard.specs.Grammar.{Formed}
-use Rattle.standard.specs.Read.{front}
+use Rattle.standard.specs.Read.{value, settled, front}
 use Rattle.standard.specs.Facts.{T-true}
 use Rattle.standard.specs.Outcomes.{inForce, arrived}
-use Rattle.laws.specs.Answers.{Holds, on, weaken, out, need-holds, Left}
+use Rattle.laws.specs.Answers.{Holds, yes′, no′, on, weaken, out, need-holds, Left}
 use Rattle.laws.specs.Complete.{complete}
 use Rattle.laws.specs.Sound.{sound}
 
 -- well-formed bytes are read, whatever stands behind them
 pub front-complete : (l : ℕ) (v : Tree) (a rest : List ℕ) → Formed l v a → front l (a ++ rest) ≡ got (v, rest)
-unfolding front
-front-complete l v a rest h = complete l v a (h .form) 0 rest
+unfolding front settled
+front-complete l v a rest h = ap settled (complete l v a (h .form) 0 rest)
+
+settled-holds : {A : Type 0} {P : A → Type 0} {m : Answer A} → Holds P m → Holds P (settled m)
+unfolding settled
+settled-holds (yes′ h) = yes′ h
+settled-holds no′ = no′
 
 -- what is read is well-formed
 pub front-sound : (l : ℕ) (r : List ℕ) → Holds (λ x. Left (Formed l (x .0)) r (x .1)) (front l r)
 unfolding front
-front-sound l r = weaken (sound l 0 r) (λ x h. record { front = h .front; split = h .split; holds = record { form = h .holds } })
+front-sound l r = settled-holds (weaken (sound l 0 r) (λ x h. record { front = h .front; split = h .split; holds = record { form = h .holds } }))
 
 -- a value is read exactly where a front is well-formed
 pub front-reads : (l : ℕ) (r s : List ℕ) (v : Tree) → front l r ≡ got (v, s) → Left (Formed l v) r s

@@ -4,9 +4,16 @@
 use Prim.Native.Nat.{ℕ}
 use mathlib.Core.Bool.{Bool, true, false}
 
--- Where a refusal points: at a row in writing, at an offset in reading
+-- Where a refusal points: in writing at a row, or at a byte of the lent text; in reading at the offset of a value's code, or of a byte of its text
 pub data Place : Type 0 where
   at : ℕ → Place
+  -- a byte of text that is read, which keeps its place in an array too
+  byte : ℕ → Place
+
+-- as the caller is told it
+abbrev pub offset : Place → ℕ
+offset (at p) = p
+offset (byte p) = p
 
 pub data Answer (A : Type 0) : Type 0 where
   got : A → Answer A

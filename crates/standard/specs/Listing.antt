@@ -3,7 +3,7 @@ use Prim.Native.Nat.{ℕ, zero, suc, _+_, _-_, _/_, _%_}
 use mathlib.Core.List.{List, [], _∷_, _++_}
 use lib.Dec.{leb, ltb}
 use lib.ListN.{length}
-use Rattle.standard.specs.Answer.{Answer, got, refuse, at}
+use Rattle.standard.specs.Answer.{Answer, got, refuse, offset}
 use Rattle.standard.specs.Choose.{if}
 use Rattle.standard.specs.Tree.{Tree, rows}
 use Rattle.standard.specs.Outcomes.{arrived}
@@ -53,7 +53,7 @@ lines i (k ∷ n ∷ w) = line i k n ++ lines (suc i) w
 
 unfoldable pub shown : (length : ℕ) → Answer (Tree × List ℕ) → List ℕ
 shown n (got (v, z)) = lines 0 (rows v) ++ endWord ++ (space ∷ decimal (n - length z)) ++ (newline ∷ [])
-shown n (refuse x (at p)) = refusedWord ++ (space ∷ decimal x) ++ (space ∷ decimal p) ++ (newline ∷ [])
+shown n (refuse x p) = refusedWord ++ (space ∷ decimal x) ++ (space ∷ decimal (offset p)) ++ (newline ∷ [])
 
 -- the most bytes that the program takes
 abbrev pub inputMost : ℕ

@@ -4,11 +4,12 @@ use Prim.Native.Nat.{ℕ, zero, suc, _+_, _-_}
 use mathlib.Core.List.{List, [], _∷_}
 use lib.Dec.{leb}
 use lib.ListN.{length, take, drop}
-use Rattle.standard.specs.Answer.{Answer, got, refuse, at, _>>=_, _>>_, need, tooDeep, elementUnfit, inputShort, codeUnknown, payloadBad, sizeAmiss}
+use Rattle.standard.specs.Answer.{Answer, got, refuse, at, byte, offset, _>>=_, _>>_, need, tooDeep, elementUnfit, inputShort, codeUnknown, payloadBad, sizeAmiss}
 use Rattle.standard.specs.Bytes.{unbe}
+use Rattle.standard.specs.Text.{placeIn}
 use Rattle.standard.specs.Tree.{Tree, node, Trees, none, more}
 use Rattle.standard.specs.Codes.{Scalar, constant, whole, small, raw, sized, Layout, unknown, described, scalar, compound, array, layoutOf, kindOf, isCode, element}
-use Rattle.standard.specs.Kinds.{fair, clean, paired, named}
+use Rattle.standard.specs.Kinds.{fair, flaw, clean, paired, named}
 use Rattle.standard.specs.Grammar.{extend}
 
 -- the first w bytes of a room, and the rest of it
@@ -34,11 +35,20 @@ plain (sized w) p r = do
   (t, z) ← cut p (unbe a) b
   got (unbe a, t, z)
 
+-- how many bytes stand between a code and its text
+unfoldable pub ahead : Scalar → ℕ
+ahead (constant n) = 0
+ahead (whole w) = 0
+ahead (small w) = 0
+ahead (raw w) = 0
+ahead (sized w) = w
+
+-- a payload begins one behind its place: an element's place is counted from the code before it
 unfoldable pub leaf : Scalar → (kind place : ℕ) → List ℕ → Answer (Tree × List ℕ)
 leaf s k p r = do
   (n, t, z) ← plain s p r
   need (fair k n) payloadBad (at p)
-  need (clean k t) payloadBad (at p)
+  need (clean k t) payloadBad (byte (p + 1 + ahead s + placeIn (flaw k t)))
   got (node k n t none, z)
 
 -- so many values, one after the other, each read by f
@@ -63,10 +73,11 @@ fields p w r = do
   (c, body) ← cut p w x
   got (unbe c, body, z)
 
--- a refusal in the contents of an array has the array's place
+-- a refusal in the contents of an array has the array's place, but for a byte of text
 unfoldable pub held : {A : Type 0} → (place : ℕ) → Answer A → Answer A
 held p (got a) = got a
 held p (refuse x (at q)) = refuse x (at p)
+held p (refuse x (byte q)) = refuse x (byte q)
 
 -- so many payloads of the code e, which stands at place q, and the elements' kind; f reads behind a code
 unfoldable pub items : (ℕ → ℕ → List ℕ → Answer (Tree × List ℕ)) → (place count code : ℕ) → List ℕ → Answer (ℕ × Trees)
@@ -118,6 +129,11 @@ payload (suc l) c p r = behind (λ e q s. payload l e q s) l (kindOf c) p r (lay
 unfoldable pub value : (levels place : ℕ) → List ℕ → Answer (Tree × List ℕ)
 value l p r = coded (λ e q s. payload l e q s) l p r
 
+-- an answer as the caller is told it: a place is an offset in the input
+unfoldable pub settled : {A : Type 0} → Answer A → Answer A
+settled (got a) = got a
+settled (refuse x p) = refuse x (at (offset p))
+
 -- the value at the beginning of an input, and what is behind it
 unfoldable pub front : (levels : ℕ) → List ℕ → Answer (Tree × List ℕ)
-front l r = value l 0 r
+front l r = settled (value l 0 r)

@@ -7,8 +7,9 @@ use lib.Dec.{T, eqb, leb, ltb}
 use lib.ListN.{length, take, drop}
 use Rattle.standard.specs.Answer.{Answer, got, refuse, at, _>>=_, _>>_, need, rowsAmiss, kindUnknown, tooDeep, elementUnfit, numberOutside, textAmiss}
 use Rattle.standard.specs.Utf8.{GoodText}
+use Rattle.standard.specs.Text.{placeIn}
 use Rattle.standard.specs.Tree.{Tree, node, Trees, none, more, count}
-use Rattle.standard.specs.Kinds.{Style, foreign, numbered, blob, lettered, listed, mapped, arrayed, describing, styleOf, isKind, member, nameable, fair, clean, countIn, kindIn}
+use Rattle.standard.specs.Kinds.{Style, foreign, numbered, blob, lettered, listed, mapped, arrayed, describing, styleOf, isKind, member, nameable, fair, flaw, clean, countIn, kindIn}
 
 -- the writer's limit on lengths, counts and bytes (docs/FORMAT.md, 2.7)
 abbrev pub most : ℕ
@@ -97,37 +98,37 @@ letter i w x = do
   need (leb w (length x)) textAmiss (at i)
   got (take w x, drop w x)
 
--- so many values at that spot, the first at row i, each taken by f
-unfoldable pub several : (Spot → ℕ → List ℕ → List ℕ → Answer (Tree × List ℕ × List ℕ)) → Spot → (count row : ℕ) → (words text : List ℕ) → Answer (Trees × List ℕ × List ℕ)
-several f c zero i w x = got (none, w, x)
-several f c (suc n) i w x = do
-  (v, u, y) ← f c i w x
-  (vs, r, z) ← several f c n (i + (length w - length u) / 2) u y
+-- so many values at that spot, the first at row i, each taken by f; the text that is left begins at place j of all
+unfoldable pub several : (Spot → ℕ → ℕ → List ℕ → List ℕ → Answer (Tree × List ℕ × List ℕ)) → Spot → (count row from : ℕ) → (words text : List ℕ) → Answer (Trees × List ℕ × List ℕ)
+several f c zero i j w x = got (none, w, x)
+several f c (suc n) i j w x = do
+  (v, u, y) ← f c i j w x
+  (vs, r, z) ← several f c n (i + (length w - length u) / 2) (j + (length x - length y)) u y
   got (more v vs, r, z)
 
 -- the value whose row i is of kind k with number n, and what is left of words and text
-unfoldable pub row : (Spot → ℕ → List ℕ → List ℕ → Answer (Tree × List ℕ × List ℕ)) → Spot → (row kind number : ℕ) → (words text : List ℕ) → Answer (Tree × List ℕ × List ℕ)
-row f c i k n w x = do
+unfoldable pub row : (Spot → ℕ → ℕ → List ℕ → List ℕ → Answer (Tree × List ℕ × List ℕ)) → Spot → (row from kind number : ℕ) → (words text : List ℕ) → Answer (Tree × List ℕ × List ℕ)
+row f c i j k n w x = do
   need (allowed c k) elementUnfit (at i)
   need (naming (spotIn (styleOf k) n)) elementUnfit (at i)
   need (ranged (styleOf k) k n) numberOutside (at i)
   (t, y) ← letter i (letters (styleOf k) n) x
-  need (clean k t) textAmiss (at i)
-  (vs, r, z) ← several f (spotIn (styleOf k) n) (children (styleOf k) n) (i + 1) w y
+  need (clean k t) textAmiss (at (j + placeIn (flaw k t)))
+  (vs, r, z) ← several f (spotIn (styleOf k) n) (children (styleOf k) n) (i + 1) (j + length t) w y
   got (node k n t vs, r, z)
 
 -- the value at row i, of at most so many levels
-unfoldable pub tree : (levels : ℕ) → Spot → (row : ℕ) → (words text : List ℕ) → Answer (Tree × List ℕ × List ℕ)
-tree zero c i [] x = refuse rowsAmiss (at i)
-tree zero c i (k ∷ []) x = refuse rowsAmiss (at i)
-tree zero c i (k ∷ n ∷ w) x = do
+unfoldable pub tree : (levels : ℕ) → Spot → (row from : ℕ) → (words text : List ℕ) → Answer (Tree × List ℕ × List ℕ)
+tree zero c i j [] x = refuse rowsAmiss (at i)
+tree zero c i j (k ∷ []) x = refuse rowsAmiss (at i)
+tree zero c i j (k ∷ n ∷ w) x = do
   need (isKind (styleOf k)) kindUnknown (at i)
   refuse tooDeep (at i)
-tree (suc l) c i [] x = refuse rowsAmiss (at i)
-tree (suc l) c i (k ∷ []) x = refuse rowsAmiss (at i)
-tree (suc l) c i (k ∷ n ∷ w) x = do
+tree (suc l) c i j [] x = refuse rowsAmiss (at i)
+tree (suc l) c i j (k ∷ []) x = refuse rowsAmiss (at i)
+tree (suc l) c i j (k ∷ n ∷ w) x = do
   need (isKind (styleOf k)) kindUnknown (at i)
-  row (λ d j u y. tree l d j u y) c i k n w x
+  row (λ d m o u y. tree l d m o u y) c i j k n w x
 
 -- nothing is left
 unfoldable pub spent : (number row : ℕ) → List ℕ → Answer (Unit {0})
@@ -138,7 +139,7 @@ spent a i (b ∷ r) = refuse a (at i)
 unfoldable pub table : (levels : ℕ) → (words text : List ℕ) → Answer Tree
 table l w x = do
   need (eqb (length w % 2) 0) rowsAmiss (at 0)
-  (v, u, y) ← tree l any 0 w x
+  (v, u, y) ← tree l any 0 0 w x
   spent rowsAmiss ((length w - length u) / 2) u
   spent textAmiss (length w / 2) y
   got v
