@@ -9,10 +9,9 @@ use lib.ListN.{length, take, drop, length-append}
 use lib.Seq.{take-append-le, drop-append-le}
 use Rattle.standard.specs.Answer.{Answer, got, refuse, Place, at, byte, _>>=_, _>>_, need, inputShort, sizeAmiss, payloadBad}
 use Rattle.standard.specs.Bytes.{unbe}
-use Rattle.standard.specs.Text.{placeIn}
 use Rattle.standard.specs.Tree.{Tree}
 use Rattle.standard.specs.Codes.{Scalar, constant, whole, small, raw, sized, Layout, unknown, described, scalar, compound, array, layoutOf, kindOf}
-use Rattle.standard.specs.Kinds.{fair, flaw, clean, paired}
+use Rattle.standard.specs.Kinds.{fair, clean, goodLength, paired}
 use Rattle.standard.specs.Read.{cut, plain, ahead, leaf, many, done, fields, held, inside, coded, behind, payload, value, settled, front}
 use Rattle.standard.specs.Facts.{T-true}
 
@@ -59,7 +58,7 @@ module _ (s : List ℕ) where
 
   leaf-ext : (c : Scalar) (k p : ℕ) (r : List ℕ) → Ext (More s) (leaf c k p r) (leaf c k p (r ++ s))
   unfolding leaf
-  leaf-ext c k p r = ext (plain-ext c p r) (λ x y e. rw e (ext (ext-refl (need (fair k (x .0)) payloadBad (at p))) (λ a b f. ext (ext-refl (need (clean k (x .1)) payloadBad (byte (p + 1 + ahead c + placeIn (flaw k (x .1)))))) (λ a b f. both refl))))
+  leaf-ext c k p r = ext (plain-ext c p r) (λ x y e. rw e (ext (ext-refl (need (fair k (x .0)) payloadBad (at p))) (λ a b f. ext (ext-refl (need (clean k (x .1)) payloadBad (byte (p + 1 + ahead c + goodLength k (x .1))))) (λ a b f. both refl))))
 
   far : (r z : List ℕ) → length (r ++ s) - length (z ++ s) ≡ length r - length z
   far r z = simp length-append (omega arith)

@@ -9,10 +9,9 @@ use lib.Dec.{T, eqb, leb, leb→le}
 use lib.ListN.{length, drop}
 use Rattle.standard.specs.Answer.{Answer, got, refuse, Place, at, byte, _>>=_, _>>_, need, rowsAmiss, kindUnknown, tooDeep, elementUnfit, numberOutside, textAmiss, codeUnknown, sizeAmiss, limitOutside}
 use Rattle.standard.specs.Choose.{if}
-use Rattle.standard.specs.Text.{placeIn}
 use Rattle.standard.specs.Tree.{Tree, Trees}
 use Rattle.standard.specs.Codes.{Layout, unknown, described, scalar, compound, array, layoutOf, kindOf, isCode, element}
-use Rattle.standard.specs.Kinds.{styleOf, isKind, flaw, clean, paired}
+use Rattle.standard.specs.Kinds.{styleOf, isKind, clean, goodLength, paired}
 use Rattle.standard.specs.Grammar.{Many, none′, more′, Coded, coded′, Items, empty′, items′, Shape, scalar′, described′, compound′, array′, Payload, Form, Formed}
 use Rattle.standard.specs.Read.{many, fields, held, items, inside, coded, behind, payload, value, settled, front}
 use Rattle.standard.specs.Table.{Spot, any, allowed, naming, ranged, letters, children, spotIn, letter, several, row, tree, table}
@@ -148,7 +147,7 @@ tree-higher (suc l) c i j [] x = same
 tree-higher (suc l) c i j (k ∷ []) x = same
 tree-higher (suc l) c i j (k ∷ n ∷ w) x = after (need (isKind (styleOf k)) kindUnknown (at i)) (λ u.
     after (need (allowed c k) elementUnfit (at i)) (λ u. after (need (naming (spotIn (styleOf k) n)) elementUnfit (at i)) (λ u. after (need (ranged (styleOf k) k n) numberOutside (at i)) (λ u.
-    after (letter i (letters (styleOf k) n) x) (λ a. after (need (clean k (a .0)) textAmiss (at (j + placeIn (flaw k (a .0))))) (λ u.
+    after (letter i (letters (styleOf k) n) x) (λ a. after (need (clean k (a .0)) textAmiss (at (j + goodLength k (a .0)))) (λ u.
     then (several-higher (λ d m o u y. tree l d m o u y) (λ d m o u y. tree (suc l) d m o u y) (tree-higher l) (children (styleOf k) n) (spotIn (styleOf k) n) (i + 1) (j + length (a .0)) w (a .1)) (λ b. same)))))))
 
 table-suc : (l : ℕ) (w x : List ℕ) → Higher (table l w x) (table (suc l) w x)

@@ -6,8 +6,8 @@ pub mod Demand3
 pub mod ShutOut
 pub mod Numbers
 pub mod Sequences
-pub mod Answers
 pub mod Texts
+pub mod Answers
 pub mod Complete
 pub mod Sound
 pub mod Unique

@@ -9,10 +9,9 @@ use lib.Dec.{T, eqb, leb}
 use lib.ListN.{length, drop, length-append}
 use Rattle.standard.specs.Answer.{Answer, got, refuse, Place, at, byte, _>>=_, need, rowsAmiss, kindUnknown, tooDeep, elementUnfit, numberOutside, textAmiss, tooLong, outputShort, inputShort, codeUnknown, payloadBad, sizeAmiss, rowsShort, textShort}
 use Rattle.standard.specs.Bytes.{unbe}
-use Rattle.standard.specs.Text.{placeIn}
 use Rattle.standard.specs.Tree.{Tree, node, tall, text}
 use Rattle.standard.specs.Codes.{Scalar, constant, whole, small, raw, sized, Layout, unknown, described, scalar, compound, array, layoutOf, kindOf, isCode, element}
-use Rattle.standard.specs.Kinds.{styleOf, isKind, fair, flaw, clean, paired}
+use Rattle.standard.specs.Kinds.{styleOf, isKind, fair, clean, goodLength, paired}
 use Rattle.standard.specs.Read.{cut, plain, ahead, leaf, many, done, fields, held, items, inside, coded, behind, payload, value, settled, front}
 use Rattle.standard.specs.Table.{most, Spot, any, allowed, naming, ranged, letters, children, spotIn, letter, several, row, tree, spent, table}
 use Rattle.standard.specs.Encode.{encode}
@@ -91,7 +90,7 @@ tree-range (suc l) c i j [] x = refusal′ tt
 tree-range (suc l) c i j (k ∷ []) x = refusal′ tt
 tree-range (suc l) c i j (k ∷ n ∷ w) x =
     then (needed (isKind (styleOf k)) kindUnknown (at i) tt) (λ u. then (needed (allowed c k) elementUnfit (at i) tt) (λ u. then (needed (naming (spotIn (styleOf k) n)) elementUnfit (at i) tt) (λ u. then (needed (ranged (styleOf k) k n) numberOutside (at i) tt) (λ u.
-    then (letter-range i (letters (styleOf k) n) x) (λ a. then (needed (clean k (a .0)) textAmiss (at (j + placeIn (flaw k (a .0)))) tt) (λ u.
+    then (letter-range i (letters (styleOf k) n) x) (λ a. then (needed (clean k (a .0)) textAmiss (at (j + goodLength k (a .0))) tt) (λ u.
     then (several-range (λ c i j w x. tree l c i j w x) (tree-range l) (children (styleOf k) n) (spotIn (styleOf k) n) (i + 1) (j + length (a .0)) w (a .1)) (λ b. value′)))))))
 
 spent-range : {xs : List ℕ} (a i : ℕ) (r : List ℕ) → T (among xs a) → Within xs (spent a i r)
@@ -136,7 +135,7 @@ plain-range (sized w) p r = then (cut-range p w r) (λ x. then (cut-range p (unb
 
 leaf-range : (s : Scalar) (k p : ℕ) (r : List ℕ) → Within ofMeasure (leaf s k p r)
 unfolding leaf
-leaf-range s k p r = then (plain-range s p r) (λ x. then (needed (fair k (x .0)) payloadBad (at p) tt) (λ u. then (needed (clean k (x .1)) payloadBad (byte (p + 1 + ahead s + placeIn (flaw k (x .1)))) tt) (λ u. value′)))
+leaf-range s k p r = then (plain-range s p r) (λ x. then (needed (fair k (x .0)) payloadBad (at p) tt) (λ u. then (needed (clean k (x .1)) payloadBad (byte (p + 1 + ahead s + goodLength k (x .1))) tt) (λ u. value′)))
 
 -- f refuses with these alone
 abbrev Reads : (ℕ → List ℕ → Answer (Tree × List ℕ)) → Type 0

@@ -8,10 +8,9 @@ use lib.Dec.{leb}
 use lib.ListN.{length}
 use Rattle.standard.specs.Answer.{Answer, got, refuse, at, byte, _>>=_, _>>_, need, inputShort, sizeAmiss, payloadBad, codeUnknown, elementUnfit}
 use Rattle.standard.specs.Bytes.{unbe}
-use Rattle.standard.specs.Text.{placeIn}
 use Rattle.standard.specs.Tree.{Tree}
 use Rattle.standard.specs.Codes.{Scalar, constant, whole, small, raw, sized, Layout, unknown, described, scalar, compound, array, layoutOf, kindOf, isCode, element}
-use Rattle.standard.specs.Kinds.{fair, flaw, clean, paired}
+use Rattle.standard.specs.Kinds.{fair, clean, goodLength, paired}
 use Rattle.standard.specs.Read.{cut, plain, ahead, leaf, many, done, fields, held, items, inside, coded, behind, payload, value}
 
 -- the answer with its place d further on
@@ -55,8 +54,8 @@ module _ (d : ℕ) where
   leaf-moved : (s : Scalar) (k p : ℕ) (r : List ℕ) → Moved d (leaf s k p r) (leaf s k (d + p) r)
   unfolding leaf
   leaf-moved s k p r = then (plain-moved s p r) (λ x. then (need-moved (fair k (x .0)) payloadBad p) (λ u.
-      let e : d + p + 1 + ahead s + placeIn (flaw k (x .1)) ≡ d + (p + 1 + ahead s + placeIn (flaw k (x .1))) = omega arith in
-      rw e (then (byte-moved (clean k (x .1)) payloadBad (p + 1 + ahead s + placeIn (flaw k (x .1)))) (λ u. same))))
+      let e : d + p + 1 + ahead s + goodLength k (x .1) ≡ d + (p + 1 + ahead s + goodLength k (x .1)) = omega arith in
+      rw e (then (byte-moved (clean k (x .1)) payloadBad (p + 1 + ahead s + goodLength k (x .1))) (λ u. same))))
 
   done-moved : (p : ℕ) (r : List ℕ) → Moved d (done p r) (done (d + p) r)
   unfolding done

@@ -8,10 +8,9 @@ use lib.ListN.{length, length-append, take-append-drop}
 use lib.Seq.{length-take-le}
 use Rattle.standard.specs.Answer.{Answer, at, byte, inputShort, codeUnknown, elementUnfit, payloadBad, sizeAmiss}
 use Rattle.standard.specs.Bytes.{unbe}
-use Rattle.standard.specs.Text.{placeIn}
 use Rattle.standard.specs.Tree.{Tree}
 use Rattle.standard.specs.Codes.{Scalar, constant, whole, small, raw, sized, Layout, unknown, described, scalar, compound, array, layoutOf, kindOf, isCode, element}
-use Rattle.standard.specs.Kinds.{fair, flaw, clean, paired}
+use Rattle.standard.specs.Kinds.{fair, clean, goodLength, paired}
 use Rattle.standard.specs.Grammar.{Plain, constant′, whole′, small′, raw′, sized′, Many, none′, more′, Leaf, leaf′, Fields, fields′, Coded, coded′, Items, empty′, items′, Shape, scalar′, described′, compound′, array′, Payload, Form}
 use Rattle.standard.specs.Read.{cut, plain, ahead, leaf, many, done, fields, held, items, inside, coded, behind, payload, value}
 use Rattle.laws.specs.Sequences.{clean-good}
@@ -36,7 +35,7 @@ Sound f P = (p : ℕ) (r : List ℕ) → Holds (λ x. Left (P (x .0)) r (x .1)) 
 
 leaf-sound : (s : Scalar) (k : ℕ) → Sound (λ p r. leaf s k p r) (Leaf s k)
 unfolding leaf
-leaf-sound s k p r = on (plain-sound s p r) (λ x h. on (need-holds (fair k (x .0)) payloadBad (at p)) (λ u f. on (need-holds (clean k (x .1)) payloadBad (byte (p + 1 + ahead s + placeIn (flaw k (x .1))))) (λ u t.
+leaf-sound s k p r = on (plain-sound s p r) (λ x h. on (need-holds (fair k (x .0)) payloadBad (at p)) (λ u f. on (need-holds (clean k (x .1)) payloadBad (byte (p + 1 + ahead s + goodLength k (x .1)))) (λ u t.
     yes′ record { front = h .front; split = h .split; holds = leaf′ (h .holds) f (clean-good k (x .1) t) })))
 
 many-sound : {P : Tree → List ℕ → Type 0} {f : ℕ → List ℕ → Answer (Tree × List ℕ)} → Sound f P → (n p : ℕ) (r : List ℕ) → Holds (λ x. Left (Many P n (x .0)) r (x .1)) (many f n p r)

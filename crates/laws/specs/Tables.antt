@@ -8,9 +8,8 @@ use lib.Dec.{T, eqb, leb, le→leb, leb→le}
 use lib.ListN.{length, length-append, take-append-drop}
 use lib.Seq.{length-take-le, take-at, drop-at}
 use Rattle.standard.specs.Answer.{Answer, got, at, rowsAmiss, kindUnknown, elementUnfit, numberOutside, textAmiss}
-use Rattle.standard.specs.Text.{placeIn}
 use Rattle.standard.specs.Tree.{Tree, node, Trees, none, more, count, rows, rows*, text, text*}
-use Rattle.standard.specs.Kinds.{Style, foreign, numbered, blob, lettered, listed, mapped, arrayed, describing, styleOf, isKind, member, nameable, flaw, clean, countIn, kindIn}
+use Rattle.standard.specs.Kinds.{Style, foreign, numbered, blob, lettered, listed, mapped, arrayed, describing, styleOf, isKind, member, nameable, clean, goodLength, countIn, kindIn}
 use Rattle.standard.specs.Table.{most, Spot, any, allowed, naming, ranged, letters, children, spotIn, All, Valid, letter, several, row, tree, spent, table}
 use Rattle.standard.specs.Facts.{T-true, and-right}
 use Rattle.laws.specs.Sequences.{good-clean, clean-good}
@@ -95,7 +94,7 @@ tree-sound (suc l) c i j [] x = no′
 tree-sound (suc l) c i j (k ∷ []) x = no′
 tree-sound (suc l) c i j (k ∷ n ∷ w) x =
     on (need-holds (isKind (styleOf k)) kindUnknown (at i)) (λ u o. on (need-holds (allowed c k) elementUnfit (at i)) (λ u p. on (need-holds (naming (spotIn (styleOf k) n)) elementUnfit (at i)) (λ u v. on (need-holds (ranged (styleOf k) k n) numberOutside (at i)) (λ u q.
-    on (letter-sound i (letters (styleOf k) n) x) (λ a h. on (need-holds (clean k (a .0)) textAmiss (at (j + placeIn (flaw k (a .0))))) (λ u s.
+    on (letter-sound i (letters (styleOf k) n) x) (λ a h. on (need-holds (clean k (a .0)) textAmiss (at (j + goodLength k (a .0)))) (λ u s.
     on (several-sound (Valid l) (λ c i j w x. tree l c i j w x) (tree-sound l) (children (styleOf k) n) (spotIn (styleOf k) n) (i + 1) (j + length (a .0)) w (a .1)) (λ b e.
     yes′ (
       ap (λ (z : List ℕ). k ∷ n ∷ z) (e .0),

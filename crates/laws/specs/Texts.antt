@@ -1,45 +1,51 @@
--- The faulty byte of a text is one of its bytes.
-use Prim.Native.Nat.{ℕ, zero, suc, _+_, _<_, _≤_}
-use mathlib.Core.Path.{_≡_, refl}
-use mathlib.Core.List.{List, [], _∷_}
-use mathlib.Core.Bool.{Bool, true, false}
+-- The good bytes of a row's text: where they are not all, the next is the faulty one of RFC 3629 and Part 1 (Utf8.antt).
+use Prim.Native.Nat.{ℕ, _+_, _≤_, _<_}
+use mathlib.Core.Path.{_≡_, refl, sym, ap, _∙_}
+use mathlib.Core.List.{List}
+use mathlib.Core.Bool.{Bool, true, false, not}
 use native.Mathlib.Omega.{arith}
-use lib.Dec.{eqb}
-use lib.ListN.{length}
+use borrow.Author.Tests.{eqb-true}
+use lib.Dec.{T, eqb}
+use lib.ListN.{length, length-append}
 use Rattle.standard.specs.Choose.{if}
-use Rattle.standard.specs.Text.{Range, within, Sequence, Lead, stray, then, leadIn, Fault, flawless, fault, led, faultDue, utf8, ascii, faultIn, placeIn}
-use Rattle.standard.specs.Kinds.{flaw}
-use Rattle.standard.specs.Facts.{if-case}
+use Rattle.standard.specs.Utf8.{FirstFault, BadText, bad-string, bad-symbol}
+use Rattle.standard.specs.Text.{Fault, flawless, fault, isFlawless, utf8, ascii, faultIn, goodIn}
+use Rattle.standard.specs.Kinds.{flaw, clean, goodLength}
+use Rattle.laws.specs.Sequences.{utf8-checked, ascii-checked}
 
-abbrev pub Inside : ℕ → Fault → Type 0
-Inside n flawless = Unit {0}
-Inside n (fault p) = p < n
+found : {P : ℕ → Type 0} (n : ℕ) (f : Fault) → ((p : ℕ) → f ≡ fault p → P p) → T (not (isFlawless f)) → P (goodIn n f)
+found n flawless g h = absurd h
+found n (fault p) g h = g p refl
 
-lead-inside : (n p : ℕ) (x : Lead) (k : List Range → Fault) → p < n → ((rs : List Range) → Inside n (k rs)) → Inside n (led x p k)
-lead-inside n p stray k h f = h
-lead-inside n p (then rs) k h f = f rs
-
--- while bytes are due of a sequence that begins before p
-due-inside : (ss : List Sequence) (s p n : ℕ) (bs : List ℕ) (due : List Range) → s < p → p + length bs ≤ n → Inside n (faultDue ss s p bs due)
-unfolding faultDue
-due-inside ss s p n [] [] i h = tt
-due-inside ss s p n [] (r ∷ rs) i h = omega (arith, i, h)
-due-inside ss s p n (b ∷ bs) [] i h = lead-inside n p (leadIn ss b) _ (omega (arith, h)) (λ rs. due-inside ss p (suc p) n bs rs (omega arith) (omega (arith, h)))
-due-inside ss s p n (b ∷ bs) (r ∷ rs) i h = if-case (Inside n) (within r b) (faultDue ss s (suc p) bs rs) (fault s) (λ t. due-inside ss s (suc p) n bs rs (omega (arith, i)) (omega (arith, h))) (λ t. omega (arith, i, h))
-
-fault-inside : (ss : List Sequence) (bs : List ℕ) → Inside (length bs) (faultIn ss bs)
-unfolding faultDue
-fault-inside ss [] = tt
-fault-inside ss (b ∷ bs) = lead-inside (suc (length bs)) 0 (leadIn ss b) _ (omega arith) (λ rs. due-inside ss 0 1 (suc (length bs)) bs rs (omega arith) (omega arith))
-
-pub flaw-inside : (k : ℕ) (t : List ℕ) → Inside (length t) (flaw k t)
+-- the byte behind the good ones of a bad text is its faulty one
+pub bad-text : (k : ℕ) (t : List ℕ) → T (not (clean k t)) → BadText k t (goodLength k t)
 unfolding flaw
-flaw-inside k t = if-case (Inside (length t)) (eqb k 0xb1) (faultIn utf8 t) (if (eqb k 0xb3) (faultIn ascii t) flawless) (λ o. fault-inside utf8 t)
-    (λ o. if-case (Inside (length t)) (eqb k 0xb3) (faultIn ascii t) flawless (λ i. fault-inside ascii t) (λ i. tt))
-
-pub place-inside : (k : ℕ) (t : List ℕ) → placeIn (flaw k t) ≤ length t
-place-inside k t = go (flaw k t) (flaw-inside k t)
+bad-text k t = by (eqb k 0xb1) refl (eqb k 0xb3) refl
   where
-    go : (f : Fault) → Inside (length t) f → placeIn f ≤ length t
-    go flawless h = omega arith
-    go (fault p) h = omega (arith, h)
+    by : (a : Bool) → eqb k 0xb1 ≡ a → (b : Bool) → eqb k 0xb3 ≡ b → T (not (isFlawless (if a (faultIn utf8 t) (if b (faultIn ascii t) flawless)))) → BadText k t (goodIn (length t) (if a (faultIn utf8 t) (if b (faultIn ascii t) flawless)))
+    by true e b f = rw (eqb-true k 0xb1 e) (found (length t) (faultIn utf8 t) (λ p i. bad-string (utf8-checked .found t p i)))
+    by false e true f = rw (eqb-true k 0xb3 f) (found (length t) (faultIn ascii t) (λ p i. bad-symbol (ascii-checked .found t p i)))
+    by false e false f = λ h. absurd h
+
+fault-inside : {P : List ℕ → Type 0} {t : List ℕ} {p : ℕ} → FirstFault P t p → p < length t
+fault-inside f = omega (arith, f .isPlace, f .some, ap length (f .split) ∙ length-append (f .before) (f .after))
+
+-- which is one of its bytes
+pub bad-inside : {k : ℕ} {t : List ℕ} {p : ℕ} → BadText k t p → p < length t
+bad-inside (bad-string f) = fault-inside f
+bad-inside (bad-symbol f) = fault-inside f
+
+-- text is good exactly where all its bytes are
+pub all-good : (k : ℕ) (t : List ℕ) → length t ≤ goodLength k t → clean k t ≡ true
+all-good k t h = by (clean k t) (bad-text k t)
+  where
+    by : (b : Bool) → (T (not b) → BadText k t (goodLength k t)) → b ≡ true
+    by true f = refl
+    by false f = absurd (omega (arith, h, bad-inside (f tt)))
+
+pub some-bad : (k : ℕ) (t : List ℕ) → goodLength k t < length t → clean k t ≡ false
+some-bad k t = by (flaw k t)
+  where
+    by : (f : Fault) → goodIn (length t) f < length t → isFlawless f ≡ false
+    by flawless h = absurd (omega (arith, h))
+    by (fault p) h = refl

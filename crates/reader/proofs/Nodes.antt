@@ -11,21 +11,20 @@ use borrow.Author.Tests.{eq-eqb, ne-eqb}
 use lib.Dec.{T}
 use lib.ListN.{length, drop, getD}
 use Rattle.standard.specs.Choose.{if}
-use Rattle.standard.specs.Answer.{Answer, got, refuse, at, _>>=_, _>>_, tooDeep, elementUnfit, inputShort, codeUnknown, sizeAmiss}
+use Rattle.standard.specs.Answer.{Answer, got, refuse, Place, at, byte, _>>=_, _>>_, tooDeep, elementUnfit, inputShort, codeUnknown, sizeAmiss}
 use Rattle.standard.specs.Tree.{Tree, node, Trees, tall, tall*, text, text*}
 use Rattle.standard.specs.Codes as codes
 use Rattle.standard.specs.Codes.{Scalar, Layout, unknown, described, scalar, compound, array, isCode, element, entryOf, layoutOf, kindOf}
 use Rattle.standard.specs.Kinds.{paired, named}
 use Rattle.standard.specs.Read.{leaf, many, done, fields, held, items, inside, behind, payload}
 use Rattle.laws.specs.Answers.{Holds, yes′, weaken}
-use Rattle.reader.specs.Measuring.{fits, refused, measured, several, contents, above, closed, heldAt, below, reads, elementOf, Within}
+use Rattle.reader.specs.Measuring.{fits, refused, missed, measured, several, contents, above, closed, heldAt, below, reads, elementOf, Within}
 use Rattle.reader.specs.InCode.{bodyIn, bodyIs}
 use Rattle.standard.specs.InCode.{layoutIs, entryIs}
 use Rattle.standard.specs.declared.format_code.Entry.{Entry}
 use Rattle.standard.specs.declared.format_code.Layout as in-code
 use Rattle.standard.specs.declared.refusal.Refusal.{Refusal}
-use Rattle.reader.specs.declared.measuring.Measured.{Measured}
-use Rattle.reader.specs.declared.measuring.Measured.the-variants.{Refused}
+use Rattle.reader.specs.declared.measuring.Counted.{Counted}
 use Rattle.reader.specs.declared.measuring.Head.the-variants.{Own, Under}
 use Rattle.reader.specs.declared.measuring.Body.{Body}
 use Rattle.reader.specs.declared.measuring.Body.the-variants as body
@@ -40,19 +39,22 @@ row-above : (r k n : ℕ) (m : Answer (Trees × List ℕ)) → measured r (_>>=_
 unfolding measured several above tall text
 row-above r k n (got (vs, z)) = rw (zero-add (tall* vs), zero-add (length (text* vs)), add-one)
 row-above r k n (refuse x (at p)) = refl
+row-above r k n (refuse x (byte p)) = refl
 
 -- of values that have to use up a body of b bytes; F measures what g makes of them
-row-closed : {B : Type 0} (F : Answer B → Measured) (g : Trees → Answer B) (b w p : ℕ) → ((vs : Trees) → F (g vs) ≡ fits w (suc (tall* vs)) (length (text* vs))) → ((x q : ℕ) → F (refuse x (at q)) ≡ refused x q)
+row-closed : {B : Type 0} (F : Answer B → Counted) (g : Trees → Answer B) (b w p : ℕ) → ((vs : Trees) → F (g vs) ≡ fits w (suc (tall* vs)) (length (text* vs))) → ((x : ℕ) (q : Place) → F (refuse x q) ≡ missed x q)
     → (m : Answer (Trees × List ℕ)) → Holds (λ x. length (x .1) ≤ b) m → F (_>>=_ {B = B} m (λ x. _>>_ (done p (x .1)) (g (x .0)))) ≡ closed b w p (several b 0 0 m)
 unfolding several closed done
 row-closed F g b w p i j (got (vs, [])) h = i vs ∙ rw (zero-add (tall* vs), zero-add (length (text* vs)), add-one, sub-zero b, eq-eqb b b refl)
-row-closed F g b w p i j (got (vs, c ∷ s)) (yes′ h) = j sizeAmiss p ∙ rw (ne-eqb (b - suc (length s)) b (λ e. omega arith))
-row-closed F g b w p i j (refuse x (at q)) h = j x q
+row-closed F g b w p i j (got (vs, c ∷ s)) (yes′ h) = j sizeAmiss (at p) ∙ rw (ne-eqb (b - suc (length s)) b (λ e. omega arith))
+row-closed F g b w p i j (refuse x (at q)) h = j x (at q)
+row-closed F g b w p i j (refuse x (byte q)) h = j x (byte q)
 
 row-held : (r k n p : ℕ) (z : List ℕ) (m : Answer (ℕ × Trees)) → measured r (_>>=_ {B = Tree × List ℕ} (held p m) (λ x. got (node k (named n (x .0)) [] (x .1), z))) ≡ heldAt p (contents (r - length z) m)
 unfolding measured contents heldAt held tall text
 row-held r k n p z (got (e, vs)) = refl
 row-held r k n p z (refuse x (at q)) = refl
+row-held r k n p z (refuse x (byte q)) = refl
 
 -- What stands behind a code, by the entry that was looked up for it
 pub behind-of : (l c p : ℕ) (r : List ℕ) (e : Entry) (y : in-code.Layout) → 0 < l → entryIs c e ≡ entryOf c → e .1 ≡ y
@@ -80,7 +82,7 @@ module _ (l k p : ℕ) where
   unfolding behind
   scalar-is n r s = refl
 
-  pub described-is : (r : List ℕ) (m : Measured) → m ≡ several (length r) 0 0 (many (reads Own l) 2 (p + 1) r) → above m ≡ measured (length r) (behind (below l) l k p r described)
+  pub described-is : (r : List ℕ) (m : Counted) → m ≡ several (length r) 0 0 (many (reads Own l) 2 (p + 1) r) → above m ≡ measured (length r) (behind (below l) l k p r described)
   unfolding reads behind
   described-is r m i = rw i (sym (row-above (length r) k 2 (many (reads Own l) 2 (p + 1) r)))
 
@@ -100,7 +102,7 @@ framed w p s b n e h i j =
 
 -- fields that are refused, of a compound and of an array
 pub unframed : (l w k p : ℕ) (s : List ℕ) (b : Body) (x : Refusal) → bodyIs w s b ≡ fields p w s → b ≡ body.Bad x
-    → (Refused x ≡ measured (length s) (behind (below l) l k p s (compound w))) × (Refused x ≡ measured (length s) (behind (below l) l k p s (array w)))
+    → (refused (x .number) (x .place) ≡ measured (length s) (behind (below l) l k p s (compound w))) × (refused (x .number) (x .place) ≡ measured (length s) (behind (below l) l k p s (array w)))
 unfolding behind measured
 unframed l w k p s b x h i = let e : refuse (x .number) (at (x .place)) ≡ fields p w s = sym (ap (bodyIs w s) i) ∙ h in (rw (← e), rw (← e))
 
@@ -113,14 +115,14 @@ module _ (l w k p n e : ℕ) (s : List ℕ) (g : Framed w p s n e) where
   unfolding behind measured reads tall text
   values h = rw (← g .isFields, h) (row-closed (measured (length s)) (λ vs. got (node k n [] vs, drop e s)) (length (bodyIn w e s)) e p (λ vs. rw (back e s (g .ends))) (λ x q. refl) (many (reads Own l) n (p + 1 + w + w) (bodyIn w e s)) (weaken (run-cut Own l n (p + 1 + w + w) (bodyIn w e s)) (λ x j. j .0)))
 
-  pub compound-is : (m : Measured) → paired k n ≡ true → m ≡ several (length (bodyIn w e s)) 0 0 (many (reads Own l) n (p + 1 + (w + w)) (bodyIn w e s)) → closed (e - (w + w)) e p m ≡ measured (length s) (behind (below l) l k p s (compound w))
+  pub compound-is : (m : Counted) → paired k n ≡ true → m ≡ several (length (bodyIn w e s)) 0 0 (many (reads Own l) n (p + 1 + (w + w)) (bodyIn w e s)) → closed (e - (w + w)) e p m ≡ measured (length s) (behind (below l) l k p s (compound w))
   compound-is m h i = let q : p + 1 + (w + w) ≡ p + 1 + w + w = omega arith in sym (values h ∙ rw (← q, ← i, g .size))
 
   elements : measured (length s) (behind (below l) l k p s (array w)) ≡ heldAt p (contents (length s - length (drop e s)) (inside (below l) l (p + 1 + w + w) n (bodyIn w e s)))
   unfolding behind
   elements = rw (← g .isFields) (row-held (length s) k n p (drop e s) (inside (below l) l (p + 1 + w + w) n (bodyIn w e s)))
 
-  pub array-is : (m : Measured) → m ≡ contents e (inside (below l) l (p + 1 + (w + w)) n (bodyIn w e s)) → heldAt p m ≡ measured (length s) (behind (below l) l k p s (array w))
+  pub array-is : (m : Counted) → m ≡ contents e (inside (below l) l (p + 1 + (w + w)) n (bodyIn w e s)) → heldAt p m ≡ measured (length s) (behind (below l) l k p s (array w))
   array-is m i = let q : p + 1 + (w + w) ≡ p + 1 + w + w = omega arith in sym (elements ∙ rw (← q, back e s (g .ends), ← i))
 
 -- The body of an array: too deep, no code, nothing at all, or a code and payloads
@@ -176,7 +178,7 @@ items-no l w q n e x r h = ⊎-elim (λ u. rw (u .0, u .1)) (λ u. rw (u .0, u .
 pub fit-element : (y : Layout) → elementOf y ≡ Fit → T (element y)
 fit-element y h = rw (fit-of y h .1) tt
 
-pub items-is : (l w q n e : ℕ) (r : List ℕ) (m : Measured) → elementOf (layoutOf e) ≡ Fit → m ≡ several (length r) 0 0 (many (reads (Under e) l) n q r) → closed (length r) w q m ≡ contents w (items (below l) q n e r)
+pub items-is : (l w q n e : ℕ) (r : List ℕ) (m : Counted) → elementOf (layoutOf e) ≡ Fit → m ≡ several (length r) 0 0 (many (reads (Under e) l) n q r) → closed (length r) w q m ≡ contents w (items (below l) q n e r)
 unfolding reads items contents
 items-is l w q n e r m h i =
     let u = fit-of (layoutOf e) h in

@@ -17,7 +17,7 @@ use Rattle.standard.specs.Outcomes.{levelMost, inForce, over, extent, arrived, 
 use Rattle.standard.specs.declared.refusal.Refusal.{Refusal}
 use Rattle.laws.specs.Levels.{limit-most, front-more}
 use Rattle.reader.specs.InCode.{measuredIs}
-use Rattle.reader.specs.Measuring.{refused, withRoom}
+use Rattle.reader.specs.Measuring.{tooLittle, withRoom}
 use Rattle.reader.specs.Filling.{Fillable, rowsIn, textIn}
 use Rattle.reader.specs.declared.measuring.Extent.{Extent}
 use Rattle.reader.specs.declared.measuring.Measured.{Measured}
@@ -29,7 +29,7 @@ unfolding withRoom
 room-there i j (Refused f) d e = let z : _≡_ {A = ℕ} 0 1 = cc in absurd (omega arith)
 room-there i j (Fits c) d e = go (leb (c .rows) i) (leb (c .text) j) refl refl e
   where
-    go : (s t : Bool) → leb (c .rows) i ≡ s → leb (c .text) j ≡ t → if s (if t (Fits c) (refused textShort 0)) (refused rowsShort 0) ≡ Fits d → (Fits c ≡ Fits d) × (d .rows ≤ i) × (d .text ≤ j)
+    go : (s t : Bool) → leb (c .rows) i ≡ s → leb (c .text) j ≡ t → if s (if t (Fits c) (tooLittle textShort)) (tooLittle rowsShort) ≡ Fits d → (Fits c ≡ Fits d) × (d .rows ≤ i) × (d .text ≤ j)
     go true true p q e = let z : c ≡ d = cc in (e, rw (← z) (leb-true (c .rows) i p), rw (← z) (leb-true (c .text) j q))
     go true false p q e = let z : _≡_ {A = ℕ} 0 1 = cc in absurd (omega arith)
     go false t p q e = let z : _≡_ {A = ℕ} 0 1 = cc in absurd (omega arith)
@@ -125,7 +125,7 @@ module _ (l : ℕ) (b w x : List ℕ) where
   read-refused (Refused c) e f g = let z : c ≡ f = cc in rw (← z) (read-no (c .number) (at (c .place)) (sym e))
   read-refused (Fits c) e f g = go (leb (c .rows) (length w / 2)) (leb (c .text) (length x)) refl refl g
     where
-      go : (s t : Bool) → leb (c .rows) (length w / 2) ≡ s → leb (c .text) (length x) ≡ t → if s (if t (Fits c) (refused textShort 0)) (refused rowsShort 0) ≡ Refused f → read l b w x ≡ record { answer = refusalIs f; words = w; letters = x }
+      go : (s t : Bool) → leb (c .rows) (length w / 2) ≡ s → leb (c .text) (length x) ≡ t → if s (if t (Fits c) (tooLittle textShort)) (tooLittle rowsShort) ≡ Refused f → read l b w x ≡ record { answer = refusalIs f; words = w; letters = x }
       go true true p q g = let z : _≡_ {A = ℕ} 0 1 = cc in absurd (omega arith)
       go true false p q g = let z : record { number = textShort; place = 0 } ≡ f = cc in rw (← z) (little-text (sym e) (leb-true (c .rows) (length w / 2) p) (leb-false (c .text) (length x) q))
       go false t p q g = let z : record { number = rowsShort; place = 0 } ≡ f = cc in rw (← z) (few-rows (sym e) (leb-false (c .rows) (length w / 2) p))

@@ -14,13 +14,14 @@ use Rattle.standard.specs.Choose.{if}
 use Rattle.standard.specs.Text.{flawless, isFlawless, utf8, ascii, faultIn}
 use Rattle.standard.specs.Bytes.{unbe}
 use Rattle.standard.specs.Codes.{Scalar, constant, whole, small, raw, sized}
-use Rattle.standard.specs.Kinds.{fair, flaw, clean}
+use Rattle.standard.specs.Kinds.{fair, flaw, clean, goodLength}
 use Rattle.standard.specs.Grammar.{extend}
 use Rattle.standard.specs.Tree.{tall, text}
-use Rattle.standard.specs.Read.{plain, leaf}
+use Rattle.standard.specs.Read.{plain, ahead, leaf}
 use Rattle.standard.specs.Facts.{T-true, clean-nil}
+use Rattle.laws.specs.Texts.{all-good, some-bad}
 use Rattle.reader.specs.Entries.{judged, spelt}
-use Rattle.reader.specs.Measuring.{fits, refused, measured, block}
+use Rattle.reader.specs.Measuring.{fits, refused, faulty, measured, block}
 use Rattle.reader.proofs.Rooms.{cut-short, cut-got, back}
 
 -- numbers and texts that need no look
@@ -55,7 +56,7 @@ pub leaf-unfair : (s : Scalar) (k n p : ℕ) (t z r : List ℕ) → plain s p r 
 unfolding leaf measured
 leaf-unfair s k n p t z r e f = rw (e, f)
 
-pub leaf-unclean : (s : Scalar) (k n p : ℕ) (t z r : List ℕ) → plain s p r ≡ got (n, t, z) → fair k n ≡ true → clean k t ≡ false → measured (length r) (leaf s k p r) ≡ refused payloadBad p
+pub leaf-unclean : (s : Scalar) (k n p : ℕ) (t z r : List ℕ) → plain s p r ≡ got (n, t, z) → fair k n ≡ true → clean k t ≡ false → measured (length r) (leaf s k p r) ≡ faulty payloadBad (p + 1 + ahead s + goodLength k t)
 unfolding leaf measured
 leaf-unclean s k n p t z r e f g = rw (e, f, g)
 
@@ -113,10 +114,16 @@ module _ (w k p n : ℕ) (r : List ℕ) (h : w ≤ length r) (e : n ≡ unbe (ta
   unfolding plain
   sized-got i = rw (cut-got p w r h, ← e, cut-got p n (drop w r) (rw length-drop i))
 
-  pub sized-bad : n ≤ length r - w → T (not (judged k)) → clean k (take n (drop w r)) ≡ false → measured (length r) (leaf (sized w) k p r) ≡ refused payloadBad p
-  sized-bad i t g = leaf-unclean (sized w) k n p (take n (drop w r)) (drop n (drop w r)) r (sized-got i) (unjudged k n t) g
+  -- g bytes of the text are good
+  module _ (i : n ≤ length r - w) (t : T (not (judged k))) (g : ℕ) (f : g ≡ goodLength k (take n (drop w r))) where
+    long : length (take n (drop w r)) ≡ n
+    long = length-take-le n (drop w r) (rw length-drop i)
 
-  pub sized-good : n ≤ length r - w → T (not (judged k)) → clean k (take n (drop w r)) ≡ true → measured (length r) (leaf (sized w) k p r) ≡ fits (w + n) 1 n
-  sized-good i t g =
-      let a : length r - length (drop n (drop w r)) ≡ w + n = rw (length-drop, length-drop) (omega arith) in
-      leaf-good (sized w) k n p (take n (drop w r)) (drop n (drop w r)) r (sized-got i) (unjudged k n t) g ∙ rw (a, length-take-le n (drop w r) (rw length-drop i))
+    pub sized-bad : g < n → measured (length r) (leaf (sized w) k p r) ≡ faulty payloadBad (p + 1 + w + g)
+    unfolding ahead
+    sized-bad o = leaf-unclean (sized w) k n p (take n (drop w r)) (drop n (drop w r)) r (sized-got i) (unjudged k n t) (some-bad k (take n (drop w r)) (omega (arith, long, f, o))) ∙ rw f
+
+    pub sized-good : n ≤ g → measured (length r) (leaf (sized w) k p r) ≡ fits (w + n) 1 n
+    sized-good o =
+        let a : length r - length (drop n (drop w r)) ≡ w + n = rw (length-drop, length-drop) (omega arith) in
+        leaf-good (sized w) k n p (take n (drop w r)) (drop n (drop w r)) r (sized-got i) (unjudged k n t) (all-good k (take n (drop w r)) (omega (arith, long, f, o))) ∙ rw (a, long)

@@ -8,7 +8,7 @@ use native.Mathlib.Nat.{add-zero, add-assoc}
 use lib.Dec.{T}
 use lib.ListN.{length, drop, length-append, length-drop}
 use lib.Seq.{drop-at, drop-drop}
-use Rattle.standard.specs.Answer.{Answer, got, refuse, at, _>>=_, tooDeep, inputShort}
+use Rattle.standard.specs.Answer.{Answer, got, refuse, Place, at, byte, _>>=_, tooDeep, inputShort}
 use Rattle.standard.specs.Tree.{Tree, Trees, none, more, tall, tall*, text, text*}
 use Rattle.standard.specs.Choose.{lookup}
 use Rattle.standard.specs.Bytes.{spell}
@@ -20,11 +20,11 @@ use Rattle.standard.specs.Read.{cut, plain, leaf, many, coded, payload}
 use Rattle.laws.specs.Answers.{Holds, yes′, no′, on, weaken, out}
 use Rattle.laws.specs.Bounds.{small, element-some}
 use Rattle.laws.specs.Sound.{payload-sound}
-use Rattle.reader.specs.Measuring.{fits, refused, measured, several, tallyIs, reads, reach, codeAt, Taking, Roomy, Plain}
+use Rattle.reader.specs.Measuring.{fits, refused, missed, measured, several, tallyIs, reads, reach, codeAt, Taking, Roomy, Plain}
 use Rattle.reader.specs.declared.measuring.Extent.{Extent}
-use Rattle.standard.specs.declared.refusal.Refusal.{Refusal}
-use Rattle.reader.specs.declared.measuring.Measured.{Measured}
-use Rattle.reader.specs.declared.measuring.Measured.the-variants.{Fits, Refused}
+use Rattle.reader.specs.declared.measuring.Fault.{Fault}
+use Rattle.reader.specs.declared.measuring.Counted.{Counted}
+use Rattle.reader.specs.declared.measuring.Counted.the-variants.{Fits, Refused}
 use Rattle.reader.specs.declared.measuring.Tally.{Tally}
 use Rattle.reader.specs.declared.measuring.Head.{Head}
 use Rattle.reader.specs.declared.measuring.Head.the-variants.{Own, Under}
@@ -117,8 +117,9 @@ roomy-several : (k b : ℕ) (m : Answer (Trees × List ℕ)) → b + 1 < 2 ^ 64 
 unfolding several
 roomy-several k b m i (yes′ h) = omega arith
 roomy-several k b m i (no′ {p = at q}) = tt
+roomy-several k b m i (no′ {p = byte q}) = tt
 
-pub run-roomy : (h : Head) (l n p : ℕ) (r : List ℕ) (m : Measured) → m ≡ several (length r) 0 0 (many (reads h l) n p r) → n < 2 ^ 32 → length r < 2 ^ 63 → Roomy m
+pub run-roomy : (h : Head) (l n p : ℕ) (r : List ℕ) (m : Counted) → m ≡ several (length r) 0 0 (many (reads h l) n p r) → n < 2 ^ 32 → length r < 2 ^ 63 → Roomy m
 run-roomy h l n p r m e i j = rw e (roomy-several (length r) (n + length r) (many (reads h l) n p r) (omega arith) (weaken (run-cut h l n p r) (λ x i. omega arith)))
 
 -- What a measure tells of an answer
@@ -137,19 +138,25 @@ read-of n (got (v, z)) e h =
     let i : e ≡ record { length = n - length z; rows = tall v; text = length (text v) } = cc in
     record { tree = v; rest = z; isRead = refl; bytes = ap (λ (x : Extent). x .length) i; rows = ap (λ (x : Extent). x .rows) i; letters = ap (λ (x : Extent). x .text) i }
 read-of n (refuse x (at p)) e h = let z : _≡_ {A = ℕ} 0 1 = cc in absurd (omega arith)
+read-of n (refuse x (byte p)) e h = let z : _≡_ {A = ℕ} 0 1 = cc in absurd (omega arith)
 
-refused-of : (n : ℕ) (m : Answer (Tree × List ℕ)) (f : Refusal) → measured n m ≡ Refused f → m ≡ refuse (f .number) (at (f .place))
+-- a refusal: its number and its place
+pub record Missed (m : Answer (Tree × List ℕ)) (f : Fault) : Type 0 where
+  pub number : ℕ
+  pub place : Place
+  pub isRefused : m ≡ refuse number place
+  pub isFault : missed number place ≡ Refused f
+
+refused-of : (n : ℕ) (m : Answer (Tree × List ℕ)) (f : Fault) → measured n m ≡ Refused f → Missed m f
 unfolding measured
 refused-of n (got (v, z)) f h = let z : _≡_ {A = ℕ} 0 1 = cc in absurd (omega arith)
-refused-of n (refuse x (at p)) f h =
-    let i : f ≡ record { number = x; place = p } = cc in
-    rw i
+refused-of n (refuse x p) f h = record { number = x; place = p; isRefused = refl; isFault = h }
 
 pub tally-fits : (t : Tally) → t .fits ≡ true → tallyIs t ≡ fits (t .length) (t .rows) (t .text)
 unfolding tallyIs
 tally-fits t e = rw e
 
-pub tally-refused : (t : Tally) → t .fits ≡ false → tallyIs t ≡ refused (t .number) (t .place)
+pub tally-refused : (t : Tally) → t .fits ≡ false → tallyIs t ≡ Refused (record { number = t .number; place = t .place; kept = t .kept })
 unfolding tallyIs
 tally-refused t e = rw e
 
@@ -209,7 +216,7 @@ barred Own (suc l) a p x (e ∷ r) h = let z : _≡_ {A = ℕ} 0 1 = cc in absur
 several-more : (k i j : ℕ) (v : Tree) (m : Answer (Trees × List ℕ)) → several k i j (_>>=_ {B = Trees × List ℕ} m (λ x. got (more v (x .0), x .1))) ≡ several k (i + tall v) (j + length (text v)) m
 unfolding several tall text
 several-more k i j v (got (vs, z)) = rw (length-append (text v) (text* vs), add-assoc i (tall v) (tall* vs), add-assoc j (length (text v)) (length (text* vs)))
-several-more k i j v (refuse x (at p)) = refl
+several-more k i j v (refuse x p) = refl
 
 many-got : (f : ℕ → List ℕ → Answer (Tree × List ℕ)) (k i j n q : ℕ) (r : List ℕ) (v : Tree) (z : List ℕ) → 0 < n → f q r ≡ got (v, z)
     → several k i j (many f n q r) ≡ several k (i + tall v) (j + length (text v)) (many f (n - 1) (q + (length r - length z)) z)
@@ -219,7 +226,7 @@ many-got f k i j (suc n) q r v z h e =
     let d : suc n - 1 ≡ n = omega arith in
     rw (e, d) (several-more k i j v (many f n (q + (length r - length z)) z))
 
-many-no : (f : ℕ → List ℕ → Answer (Tree × List ℕ)) (k i j n q x p : ℕ) (r : List ℕ) → 0 < n → f q r ≡ refuse x (at p) → several k i j (many f n q r) ≡ refused x p
+many-no : (f : ℕ → List ℕ → Answer (Tree × List ℕ)) (k i j n q x : ℕ) (p : Place) (r : List ℕ) → 0 < n → f q r ≡ refuse x p → several k i j (many f n q r) ≡ missed x p
 unfolding many several
 many-no f k i j zero q x p r h e = absurd (omega arith)
 many-no f k i j (suc n) q x p r h e = rw e
@@ -245,17 +252,19 @@ module _ (s : List ℕ) (h : Head) (l count p a i j left : ℕ) (g : Going s h l
       sym x ∙ rw z at (g .sum)
 
   pub stops : (x : ℕ) → 0 < left → codeAt h l a (drop a s) ≡ Bad x → refused x (p + a) ≡ several (length s) 0 0 (many (reads h l) count p s)
-  stops x n e = sym (many-no (reads h l) (length s) i j left (p + a) x (p + a) (drop a s) n (barred h l a (p + a) x (drop a s) e)) ∙ g .sum
+  stops x n e = sym (many-no (reads h l) (length s) i j left (p + a) x (at (p + a)) (drop a s) n (barred h l a (p + a) x (drop a s) e)) ∙ g .sum
 
-  module _ (n : 0 < left) (c b : ℕ) (e : codeAt h l a (drop a s) ≡ Behind c b) (m : Measured) (d : m ≡ measured (length (drop b s)) (payload l c (p + a) (drop b s))) where
+  module _ (n : 0 < left) (c b : ℕ) (e : codeAt h l a (drop a s) ≡ Behind c b) (m : Counted) (d : m ≡ measured (length (drop b s)) (payload l c (p + a) (drop b s))) where
     begun : b ≤ length s
     begun = opened-room h l a c b s (g .inside) e .0
 
     same : reads h l (p + a) (drop a s) ≡ payload l c (p + a) (drop b s)
     same = opened-same h l a c b (p + a) s (opened h l a (drop a s) c b e)
 
-    pub fails : (f : Refusal) → m ≡ Refused f → Refused f ≡ several (length s) 0 0 (many (reads h l) count p s)
-    fails f k = sym (many-no (reads h l) (length s) i j left (p + a) (f .number) (f .place) (drop a s) n (same ∙ refused-of (length (drop b s)) (payload l c (p + a) (drop b s)) f (sym d ∙ k))) ∙ g .sum
+    pub fails : (f : Fault) → m ≡ Refused f → Refused f ≡ several (length s) 0 0 (many (reads h l) count p s)
+    fails f k =
+        let o = refused-of (length (drop b s)) (payload l c (p + a) (drop b s)) f (sym d ∙ k) in
+        sym (o .isFault) ∙ sym (many-no (reads h l) (length s) i j left (p + a) (o .number) (o .place) (drop a s) n (same ∙ o .isRefused)) ∙ g .sum
 
     -- the turn goes on behind the value, and takes at least a byte
     pub again : (x : Extent) → m ≡ Fits x → Going s h l count p (b + x .length) (i + x .rows) (j + x .text) (left - 1) × (a < b + x .length)

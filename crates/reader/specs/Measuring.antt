@@ -2,15 +2,18 @@
 use Prim.Native.Nat.{ℕ, zero, suc, _+_, _-_, _^_, _≤_, _<_}
 use mathlib.Core.Path.{_≡_}
 use mathlib.Core.List.{List, [], _∷_}
+use mathlib.Core.Bool.{true, false}
 use lib.Dec.{T, eqb, leb}
 use lib.ListN.{length}
-use Rattle.standard.specs.Answer.{Answer, got, refuse, at, tooDeep, elementUnfit, inputShort, codeUnknown, sizeAmiss, rowsShort, textShort}
+use Rattle.standard.specs.Answer.{Answer, got, refuse, Place, at, byte, tooDeep, elementUnfit, inputShort, codeUnknown, sizeAmiss, rowsShort, textShort}
 use Rattle.standard.specs.Choose.{if}
 use Rattle.standard.specs.Codes.{whole, Layout, layoutOf, isCode, element}
 use Rattle.standard.specs.Tree.{Tree, Trees, tall, tall*, text, text*}
 use Rattle.standard.specs.Read.{coded, payload}
 use Rattle.reader.specs.declared.measuring.Measured.{Measured}
-use Rattle.reader.specs.declared.measuring.Measured.the-variants.{Fits, Refused}
+use Rattle.reader.specs.declared.measuring.Measured.the-variants as told
+use Rattle.reader.specs.declared.measuring.Counted.{Counted}
+use Rattle.reader.specs.declared.measuring.Counted.the-variants.{Fits, Refused}
 use Rattle.reader.specs.declared.measuring.Tally.{Tally}
 use Rattle.reader.specs.declared.measuring.Head.{Head}
 use Rattle.reader.specs.declared.measuring.Head.the-variants.{Own, Under}
@@ -21,52 +24,65 @@ use Rattle.reader.specs.declared.measuring.Body.the-variants as body
 use Rattle.reader.specs.declared.measuring.Element.{Element}
 use Rattle.reader.specs.declared.measuring.Element.the-variants.{Fit, Unfit}
 
-abbrev pub fits : (length rows text : ℕ) → Measured
+abbrev pub fits : (length rows text : ℕ) → Counted
 fits n i j = Fits (record { length = n; rows = i; text = j })
 
-abbrev pub refused : (number place : ℕ) → Measured
-refused x p = Refused (record { number = x; place = p })
+-- refused at a value, and for a byte of text
+abbrev pub refused : (number place : ℕ) → Counted
+refused x p = Refused (record { number = x; place = p; kept = false })
+
+abbrev pub faulty : (number place : ℕ) → Counted
+faulty x p = Refused (record { number = x; place = p; kept = true })
+
+abbrev pub missed : (number : ℕ) → Place → Counted
+missed x (at p) = refused x p
+missed x (byte p) = faulty x p
 
 -- what was measured, as a struct says it
-unfoldable pub tallyIs : Tally → Measured
-tallyIs t = if (t .fits) (fits (t .length) (t .rows) (t .text)) (refused (t .number) (t .place))
+unfoldable pub tallyIs : Tally → Counted
+tallyIs t = if (t .fits) (fits (t .length) (t .rows) (t .text)) (Refused (record { number = t .number; place = t .place; kept = t .kept }))
+
+-- and as the caller is told it
+unfoldable pub settledIs : Counted → Measured
+settledIs (Fits e) = told.Fits e
+settledIs (Refused f) = told.Refused (record { number = f .number; place = f .place })
 
 -- a value in a room of n bytes
-unfoldable pub measured : (room : ℕ) → Answer (Tree × List ℕ) → Measured
+unfoldable pub measured : (room : ℕ) → Answer (Tree × List ℕ) → Counted
 measured n (got (v, z)) = fits (n - length z) (tall v) (length (text v))
-measured n (refuse x (at p)) = refused x p
+measured n (refuse x p) = missed x p
 
 -- values one after another in a room of n bytes, behind i rows and j bytes of text
-unfoldable pub several : (room rows text : ℕ) → Answer (Trees × List ℕ) → Measured
+unfoldable pub several : (room rows text : ℕ) → Answer (Trees × List ℕ) → Counted
 several n i j (got (vs, z)) = fits (n - length z) (i + tall* vs) (j + length (text* vs))
-several n i j (refuse x (at p)) = refused x p
+several n i j (refuse x p) = missed x p
 
 -- an array of n bytes, by its contents
-unfoldable pub contents : (whole : ℕ) → Answer (ℕ × Trees) → Measured
+unfoldable pub contents : (whole : ℕ) → Answer (ℕ × Trees) → Counted
 contents n (got (k, vs)) = fits n (suc (tall* vs)) (length (text* vs))
-contents n (refuse x (at p)) = refused x p
+contents n (refuse x p) = missed x p
 
 -- a scalar of w bytes, t of them text
-abbrev pub block : (room width text place : ℕ) → Measured
+abbrev pub block : (room width text place : ℕ) → Counted
 block n w t p = if (leb w n) (fits w 1 t) (refused inputShort p)
 
 -- values, and the row above them
-unfoldable pub above : Measured → Measured
+unfoldable pub above : Counted → Counted
 above (Fits e) = fits (e .length) (e .rows + 1) (e .text)
 above (Refused f) = Refused f
 
 -- values that have to use up a body of n bytes, and the row above them, which takes w bytes
-unfoldable pub closed : (room whole place : ℕ) → Measured → Measured
+unfoldable pub closed : (room whole place : ℕ) → Counted → Counted
 closed n w p (Fits e) = if (eqb (e .length) n) (fits w (e .rows + 1) (e .text)) (refused sizeAmiss p)
 closed n w p (Refused f) = Refused f
 
--- a refusal has that place
-unfoldable pub heldAt : (place : ℕ) → Measured → Measured
+-- a refusal has that place, but for that of a byte of text
+unfoldable pub heldAt : (place : ℕ) → Counted → Counted
 heldAt p (Fits e) = Fits e
-heldAt p (Refused f) = refused (f .number) p
+heldAt p (Refused f) = if (f .kept) (Refused f) (refused (f .number) p)
 
 -- there is room for one row more
-abbrev pub Roomy : Measured → Type 0
+abbrev pub Roomy : Counted → Type 0
 Roomy (Fits e) = e .rows + 1 < 2 ^ 64
 Roomy (Refused f) = Unit {0}
 
@@ -110,7 +126,11 @@ Within w n (body.Bad f) = Unit {0}
 abbrev pub Plain : (code width : ℕ) → Type 0
 Plain c w = (l p : ℕ) (r : List ℕ) → 0 < l → w ≤ length r → measured (length r) (payload l c p r) ≡ fits w 1 0
 
+-- refused for too little room
+abbrev pub tooLittle : (number : ℕ) → Measured
+tooLittle x = told.Refused (record { number = x; place = 0 })
+
 -- what was measured, if there is room for so many rows and for so much text
 unfoldable pub withRoom : (rows text : ℕ) → Measured → Measured
-withRoom i j (Fits e) = if (leb (e .rows) i) (if (leb (e .text) j) (Fits e) (refused textShort 0)) (refused rowsShort 0)
-withRoom i j (Refused f) = Refused f
+withRoom i j (told.Fits e) = if (leb (e .rows) i) (if (leb (e .text) j) (told.Fits e) (tooLittle textShort)) (tooLittle rowsShort)
+withRoom i j (told.Refused f) = told.Refused f

@@ -8,6 +8,7 @@ ghost use mathlib.Core.Bool.{true};
 ghost use Prim.Native.Nat.{ℕ, _+_, _^_, _≤_, _<_};
 ghost use lib.Dec.{T};
 ghost use lib.ListN.{length, take, drop};
+ghost use Rattle.standard.specs.Answer.{payloadBad};
 ghost use Rattle.standard.specs.Bytes.{unbe};
 ghost use Rattle.standard.specs.Codes as codes;
 ghost use Rattle.standard.specs.Codes.{layoutOf};
@@ -17,7 +18,7 @@ ghost use Rattle.standard.specs.Outcomes as outcome;
 ghost use Rattle.standard.specs.Outcomes.{levelDefault};
 ghost use Rattle.reader.specs.Entries.{narrow, sure, plainBelow, plainWidth, compoundWidth, compoundKind};
 ghost use Rattle.reader.specs.InCode.{measuredIs, bodyIs};
-ghost use Rattle.reader.specs.Measuring.{refused, block, measured, several, contents, above, closed, heldAt, below, reads, reach, codeAt, elementOf, tallyIs, Taking, Roomy, Within, Plain};
+ghost use Rattle.reader.specs.Measuring.{refused, faulty, settledIs, block, measured, several, contents, above, closed, heldAt, below, reads, reach, codeAt, elementOf, tallyIs, Taking, Roomy, Within, Plain};
 use crate::number::narrow_at;
 use standard::format_code;
 use standard::format_code::Layout;
@@ -38,7 +39,20 @@ pub enum Measured {
     Refused(Refusal),
 }
 
-// What was measured, as a struct: where it `fits` length, rows and text, else number and place of the refusal.
+// A refusal inside a value, and whether its place is that of a byte of text, which it keeps in an array too.
+struct Fault {
+    number: usize,
+    place: usize,
+    kept: bool,
+}
+
+// What was measured of a value inside the bytes.
+enum Counted {
+    Fits(Extent),
+    Refused(Fault),
+}
+
+// The same as a struct: where it `fits` length, rows and text, else the refusal.
 // An enum goes through memory where branches that build it meet; the fields of a struct stay in registers.
 struct Tally {
     fits: bool,
@@ -47,6 +61,7 @@ struct Tally {
     text: usize,
     number: usize,
     place: usize,
+    kept: bool,
 }
 
 // Whether a value begins with its own code, or stands behind a code given before, as the elements of an array do.
@@ -73,20 +88,35 @@ enum Element {
     Unfit(usize),
 }
 
-pub(crate) fn refuse(number: usize, place: usize) -> Measured
+fn refuse(number: usize, place: usize) -> Counted
     ensures { λ r. ⌜ r ≡ refused number place ⌝ }
 {
-    Measured::Refused(Refusal { number, place })
+    Counted::Refused(Fault {
+        number,
+        place,
+        kept: false,
+    })
+}
+
+// Refuses a text for its byte at that place.
+fn refuse_byte(place: usize) -> Counted
+    ensures { λ r. ⌜ r ≡ faulty payloadBad place ⌝ }
+{
+    Counted::Refused(Fault {
+        number: refusal::PAYLOAD_BAD,
+        place,
+        kept: true,
+    })
 }
 
 // A scalar of so many bytes, the last of them text.
-fn fixed(s: &[u8], width: usize, text: usize, place: usize) -> Measured
+fn fixed(s: &[u8], width: usize, text: usize, place: usize) -> Counted
     ensures { λ r. ⌜ r ≡ block (length (now (s .entry))) width text place ⌝ }
 {
     if s.len() < width {
         return refuse(refusal::INPUT_SHORT, place);
     }
-    Measured::Fits(Extent {
+    Counted::Fits(Extent {
         length: width,
         rows: 1,
         text,
@@ -104,7 +134,7 @@ fn fair_at(s: &[u8], width: usize, kind: u64) -> bool
     }
 }
 
-fn whole(s: &[u8], width: usize, kind: u64, place: usize) -> Measured
+fn whole(s: &[u8], width: usize, kind: u64, place: usize) -> Counted
     requires { ⌜ T (sure kind (codes.scalar (codes.whole width))) ⌝ }
     ensures { λ r. ⌜ r ≡ measured (length (now (s .entry))) (read.leaf (codes.whole width) kind place (now (s .entry))) ⌝ }
 {
@@ -114,15 +144,15 @@ fn whole(s: &[u8], width: usize, kind: u64, place: usize) -> Measured
     if !fair_at(s, width, kind) {
         return refuse(refusal::PAYLOAD_BAD, place);
     }
-    Measured::Fits(Extent {
+    Counted::Fits(Extent {
         length: width,
         rows: 1,
         text: 0,
     })
 }
 
-fn sized(s: &[u8], width: usize, kind: u64, place: usize) -> Measured
-    requires { ⌜ T (sure kind (codes.scalar (codes.sized width))) ⌝ }
+fn sized(s: &[u8], width: usize, kind: u64, place: usize) -> Counted
+    requires { ⌜ (place + 1 + length (now s) < 2 ^ 63) × T (sure kind (codes.scalar (codes.sized width))) ⌝ }
     ensures { λ r. ⌜ r ≡ measured (length (now (s .entry))) (read.leaf (codes.sized width) kind place (now (s .entry))) ⌝ }
 {
     if s.len() < width {
@@ -132,12 +162,12 @@ fn sized(s: &[u8], width: usize, kind: u64, place: usize) -> Measured
     if s.len() - width < count {
         return refuse(refusal::INPUT_SHORT, place);
     }
-    let end = width + count;
-    if !text::is_clean(kind, s, width, count) {
-        return refuse(refusal::PAYLOAD_BAD, place);
+    let good = text::good_length(kind, s, width, count);
+    if good < count {
+        return refuse_byte(place + 1 + width + good);
     }
-    Measured::Fits(Extent {
-        length: end,
+    Counted::Fits(Extent {
+        length: width + count,
         rows: 1,
         text: count,
     })
@@ -212,29 +242,29 @@ fn element_of(code: u8) -> Element
 }
 
 // Values, and the row above them.
-fn row_above(m: Measured) -> Measured
+fn row_above(m: Counted) -> Counted
     requires { ⌜ Roomy m ⌝ }
     ensures { λ r. ⌜ r ≡ above m ⌝ }
 {
     match m {
-        Measured::Fits(e) => Measured::Fits(Extent {
+        Counted::Fits(e) => Counted::Fits(Extent {
             length: e.length,
             rows: e.rows + 1,
             text: e.text,
         }),
-        Measured::Refused(f) => Measured::Refused(f),
+        Counted::Refused(f) => Counted::Refused(f),
     }
 }
 
 // Values that have to use up a body of so many bytes, and the row above them, which takes `whole` bytes.
-fn done(m: Measured, room: usize, whole: usize, place: usize) -> Measured
+fn done(m: Counted, room: usize, whole: usize, place: usize) -> Counted
     requires { ⌜ Roomy m ⌝ }
     ensures { λ r. ⌜ r ≡ closed room whole place m ⌝ }
 {
     match m {
-        Measured::Fits(e) => {
+        Counted::Fits(e) => {
             if e.length == room {
-                return Measured::Fits(Extent {
+                return Counted::Fits(Extent {
                     length: whole,
                     rows: e.rows + 1,
                     text: e.text,
@@ -242,17 +272,22 @@ fn done(m: Measured, room: usize, whole: usize, place: usize) -> Measured
             }
             refuse(refusal::SIZE_AMISS, place)
         }
-        Measured::Refused(f) => Measured::Refused(f),
+        Counted::Refused(f) => Counted::Refused(f),
     }
 }
 
-// A refusal in the contents of an array has the array's place.
-fn held(m: Measured, place: usize) -> Measured
+// A refusal in the contents of an array has the array's place, but for that of a byte of text.
+fn held(m: Counted, place: usize) -> Counted
     ensures { λ r. ⌜ r ≡ heldAt place m ⌝ }
 {
     match m {
-        Measured::Fits(e) => Measured::Fits(e),
-        Measured::Refused(f) => refuse(f.number, place),
+        Counted::Fits(e) => Counted::Fits(e),
+        Counted::Refused(f) => {
+            if f.kept {
+                return Counted::Refused(f);
+            }
+            refuse(f.number, place)
+        }
     }
 }
 
@@ -336,25 +371,27 @@ fn compound_kind(code: u8) -> u64
 }
 
 // What was measured, as a struct.
-fn told(m: Measured) -> Tally
+fn told(m: Counted) -> Tally
     ensures { λ r. ⌜ tallyIs r ≡ m ⌝ }
 {
     match m {
-        Measured::Fits(e) => Tally {
+        Counted::Fits(e) => Tally {
             fits: true,
             length: e.length,
             rows: e.rows,
             text: e.text,
             number: 0,
             place: 0,
+            kept: false,
         },
-        Measured::Refused(f) => Tally {
+        Counted::Refused(f) => Tally {
             fits: false,
             length: 0,
             rows: 0,
             text: 0,
             number: f.number,
             place: f.place,
+            kept: f.kept,
         },
     }
 }
@@ -362,7 +399,7 @@ fn told(m: Measured) -> Tally
 // So many values, one after another, where so many levels are left.
 // No count is believed: each turn refuses or takes a byte, for a value has its code, and the payload of an element is never empty.
 // What is left of the bytes is the loop's measure.
-fn many(s: &[u8], head: Head, count: usize, place: usize, levels: usize) -> Measured
+fn many(s: &[u8], head: Head, count: usize, place: usize, levels: usize) -> Counted
     requires { ⌜ (place + reach head + length (now s) < 2 ^ 63) × (count < 2 ^ 32) × Taking head ⌝ }
     ensures { λ r. ⌜ r ≡ several (length (now (s .entry))) 0 0 (read.many (reads head levels) count place (now (s .entry))) ⌝ }
 {
@@ -382,7 +419,11 @@ fn many(s: &[u8], head: Head, count: usize, place: usize, levels: usize) -> Meas
                 } else {
                     let t = payload(&s[from..], code, place + at, levels);
                     if !t.fits {
-                        return refuse(t.number, t.place);
+                        return Counted::Refused(Fault {
+                            number: t.number,
+                            place: t.place,
+                            kept: t.kept,
+                        });
                     }
                     at = from + t.length;
                     rows += t.rows;
@@ -391,7 +432,7 @@ fn many(s: &[u8], head: Head, count: usize, place: usize, levels: usize) -> Meas
             }
         }
     }
-    Measured::Fits(Extent {
+    Counted::Fits(Extent {
         length: at,
         rows,
         text,
@@ -412,7 +453,7 @@ fn payload(s: &[u8], code: u8, place: usize, levels: usize) -> Tally
 }
 
 // What stands behind a code that is not a list's or a map's.
-fn behind(s: &[u8], code: u8, place: usize, levels: usize) -> Measured
+fn behind(s: &[u8], code: u8, place: usize, levels: usize) -> Counted
     requires { ⌜ (place + 1 + length (now s) < 2 ^ 63) × (0 < levels) × (compoundWidth code ≤ 0) ⌝ }
     ensures { λ r. ⌜ r ≡ measured (length (now (s .entry))) (read.payload levels code place (now (s .entry))) ⌝ }
 {
@@ -434,12 +475,12 @@ fn behind(s: &[u8], code: u8, place: usize, levels: usize) -> Measured
 }
 
 // A list or a map, behind its code.
-fn compound(s: &[u8], width: usize, kind: u64, place: usize, levels: usize) -> Measured
+fn compound(s: &[u8], width: usize, kind: u64, place: usize, levels: usize) -> Counted
     requires { ⌜ (place + 1 + length (now s) < 2 ^ 63) × T (narrow width) ⌝ }
     ensures { λ r. ⌜ r ≡ measured (length (now (s .entry))) (read.behind (below levels) levels kind place (now (s .entry)) (codes.compound width)) ⌝ }
 {
     match fields(s, width, place) {
-        Body::Bad(f) => Measured::Refused(f),
+        Body::Bad(f) => refuse(f.number, f.place),
         Body::Found { count, end } => {
             if !is_paired(kind, count) {
                 return refuse(refusal::SIZE_AMISS, place);
@@ -452,12 +493,12 @@ fn compound(s: &[u8], width: usize, kind: u64, place: usize, levels: usize) -> M
 }
 
 // An array, behind its code, of whatever kind.
-fn array(s: &[u8], width: usize, place: usize, levels: usize) -> Measured
+fn array(s: &[u8], width: usize, place: usize, levels: usize) -> Counted
     requires { ⌜ (place + 1 + length (now s) < 2 ^ 63) × T (narrow width) ⌝ }
     ensures { λ r. ⌜ ((k : ℕ) → r ≡ measured (length (now (s .entry))) (read.behind (below levels) levels k place (now (s .entry)) (codes.array width))) ⌝ }
 {
     match fields(s, width, place) {
-        Body::Bad(f) => Measured::Refused(f),
+        Body::Bad(f) => refuse(f.number, f.place),
         Body::Found { count, end } => {
             let from = width + width;
             let m = inside(&s[from..end], count, end, place + 1 + from, levels);
@@ -467,7 +508,7 @@ fn array(s: &[u8], width: usize, place: usize, levels: usize) -> Measured
 }
 
 // The body of an array that takes `whole` bytes.
-fn inside(body: &[u8], count: usize, whole: usize, place: usize, levels: usize) -> Measured
+fn inside(body: &[u8], count: usize, whole: usize, place: usize, levels: usize) -> Counted
     requires { ⌜ (place + length (now body) < 2 ^ 63) × (count < 2 ^ 32) ⌝ }
     ensures { λ r. ⌜ r ≡ contents whole (read.inside (below levels) levels place count (now (body .entry))) ⌝ }
 {
@@ -480,7 +521,7 @@ fn inside(body: &[u8], count: usize, whole: usize, place: usize, levels: usize) 
         }
     }
     if body.len() == 0 {
-        return Measured::Fits(Extent {
+        return Counted::Fits(Extent {
             length: whole,
             rows: 1,
             text: 0,
@@ -490,7 +531,7 @@ fn inside(body: &[u8], count: usize, whole: usize, place: usize, levels: usize) 
 }
 
 // So many payloads of one code.
-fn items(s: &[u8], code: u8, count: usize, whole: usize, place: usize, levels: usize) -> Measured
+fn items(s: &[u8], code: u8, count: usize, whole: usize, place: usize, levels: usize) -> Counted
     requires { ⌜ (place + 1 + length (now s) < 2 ^ 63) × (count < 2 ^ 32) ⌝ }
     ensures { λ r. ⌜ r ≡ contents whole (read.items (below levels) place count code (now (s .entry))) ⌝ }
 {
@@ -503,14 +544,30 @@ fn items(s: &[u8], code: u8, count: usize, whole: usize, place: usize, levels: u
     }
 }
 
+// What was measured, as the caller is told it.
+fn settled(m: Counted) -> Measured
+    ensures { λ r. ⌜ r ≡ settledIs m ⌝ }
+{
+    match m {
+        Counted::Fits(e) => Measured::Fits(e),
+        Counted::Refused(f) => Measured::Refused(Refusal {
+            number: f.number,
+            place: f.place,
+        }),
+    }
+}
+
 // Measures the value at the front of the bytes within a level limit.
 pub fn measure_within(limit: usize, bytes: &[u8]) -> Measured
     ensures { λ r. ⌜ measuredIs r ≡ outcome.measure limit (now (bytes .entry)) ⌝ }
 {
     if !limit::is_in_force(limit) {
-        return refuse(refusal::LIMIT_OUTSIDE, 0);
+        return Measured::Refused(Refusal {
+            number: refusal::LIMIT_OUTSIDE,
+            place: 0,
+        });
     }
-    many(bytes, Head::Own, 1, 0, limit)
+    settled(many(bytes, Head::Own, 1, 0, limit))
 }
 
 // Measures the value at the front of the bytes, within 16 levels.

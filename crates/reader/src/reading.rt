@@ -3,12 +3,19 @@ ghost use mathlib.Core.Path.{_≡_};
 ghost use Rattle.standard.specs.Outcomes as outcome;
 ghost use Rattle.standard.specs.Outcomes.{levelDefault};
 ghost use Rattle.reader.specs.InCode.{measuredIs};
-ghost use Rattle.reader.specs.Measuring.{withRoom};
+ghost use Rattle.reader.specs.Measuring.{tooLittle, withRoom};
 use crate::filling;
 use crate::measuring;
 use crate::measuring::Measured;
 use standard::limit;
 use standard::refusal;
+use standard::refusal::Refusal;
+
+fn refuse(number: usize) -> Measured
+    ensures { λ r. ⌜ r ≡ tooLittle number ⌝ }
+{
+    Measured::Refused(Refusal { number, place: 0 })
+}
 
 // What was measured, if there is room for so many rows and for so much text.
 fn with_room(m: Measured, rows: usize, text: usize) -> Measured
@@ -17,10 +24,10 @@ fn with_room(m: Measured, rows: usize, text: usize) -> Measured
     match m {
         Measured::Fits(e) => {
             if rows < e.rows {
-                return measuring::refuse(refusal::ROWS_SHORT, 0);
+                return refuse(refusal::ROWS_SHORT);
             }
             if text < e.text {
-                return measuring::refuse(refusal::TEXT_SHORT, 0);
+                return refuse(refusal::TEXT_SHORT);
             }
             Measured::Fits(e)
         }

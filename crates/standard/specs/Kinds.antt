@@ -7,7 +7,7 @@ use mathlib.Core.Bool.{Bool, true, false, not, _&&_, _||_}
 use lib.Dec.{eqb, leb}
 use lib.ListN.{length}
 use Rattle.standard.specs.Choose.{if, lookup}
-use Rattle.standard.specs.Text.{Fault, flawless, isFlawless, utf8, ascii, faultIn}
+use Rattle.standard.specs.Text.{Fault, flawless, isFlawless, utf8, ascii, faultIn, goodIn}
 
 -- The shorter forms of a number, by their format codes
 pub data Short : Type 0 where
@@ -117,6 +117,10 @@ flaw k t = if (eqb k 0xb1) (faultIn utf8 t) (if (eqb k 0xb3) (faultIn ascii t) f
 
 abbrev pub clean : (kind : ℕ) → (text : List ℕ) → Bool
 clean k t = isFlawless (flaw k t)
+
+-- how many bytes of it are good; where that is not all, the next is the faulty one
+abbrev pub goodLength : (kind : ℕ) → (text : List ℕ) → ℕ
+goodLength k t = goodIn (length t) (flaw k t)
 
 -- may a compound of that kind hold so many values: a map holds pairs
 unfoldable pub paired : (kind count : ℕ) → Bool

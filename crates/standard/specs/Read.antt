@@ -6,10 +6,9 @@ use lib.Dec.{leb}
 use lib.ListN.{length, take, drop}
 use Rattle.standard.specs.Answer.{Answer, got, refuse, at, byte, offset, _>>=_, _>>_, need, tooDeep, elementUnfit, inputShort, codeUnknown, payloadBad, sizeAmiss}
 use Rattle.standard.specs.Bytes.{unbe}
-use Rattle.standard.specs.Text.{placeIn}
 use Rattle.standard.specs.Tree.{Tree, node, Trees, none, more}
 use Rattle.standard.specs.Codes.{Scalar, constant, whole, small, raw, sized, Layout, unknown, described, scalar, compound, array, layoutOf, kindOf, isCode, element}
-use Rattle.standard.specs.Kinds.{fair, flaw, clean, paired, named}
+use Rattle.standard.specs.Kinds.{fair, clean, goodLength, paired, named}
 use Rattle.standard.specs.Grammar.{extend}
 
 -- the first w bytes of a room, and the rest of it
@@ -48,7 +47,7 @@ unfoldable pub leaf : Scalar → (kind place : ℕ) → List ℕ → Answer (Tre
 leaf s k p r = do
   (n, t, z) ← plain s p r
   need (fair k n) payloadBad (at p)
-  need (clean k t) payloadBad (byte (p + 1 + ahead s + placeIn (flaw k t)))
+  need (clean k t) payloadBad (byte (p + 1 + ahead s + goodLength k t))
   got (node k n t none, z)
 
 -- so many values, one after the other, each read by f

@@ -7,9 +7,8 @@ use lib.Dec.{T, eqb, leb, ltb}
 use lib.ListN.{length, take, drop}
 use Rattle.standard.specs.Answer.{Answer, got, refuse, at, _>>=_, _>>_, need, rowsAmiss, kindUnknown, tooDeep, elementUnfit, numberOutside, textAmiss}
 use Rattle.standard.specs.Utf8.{GoodText}
-use Rattle.standard.specs.Text.{placeIn}
 use Rattle.standard.specs.Tree.{Tree, node, Trees, none, more, count}
-use Rattle.standard.specs.Kinds.{Style, foreign, numbered, blob, lettered, listed, mapped, arrayed, describing, styleOf, isKind, member, nameable, fair, flaw, clean, countIn, kindIn}
+use Rattle.standard.specs.Kinds.{Style, foreign, numbered, blob, lettered, listed, mapped, arrayed, describing, styleOf, isKind, member, nameable, fair, clean, goodLength, countIn, kindIn}
 
 -- the writer's limit on lengths, counts and bytes (docs/FORMAT.md, 2.7)
 abbrev pub most : ℕ
@@ -113,7 +112,7 @@ row f c i j k n w x = do
   need (naming (spotIn (styleOf k) n)) elementUnfit (at i)
   need (ranged (styleOf k) k n) numberOutside (at i)
   (t, y) ← letter i (letters (styleOf k) n) x
-  need (clean k t) textAmiss (at (j + placeIn (flaw k t)))
+  need (clean k t) textAmiss (at (j + goodLength k t))
   (vs, r, z) ← several f (spotIn (styleOf k) n) (children (styleOf k) n) (i + 1) (j + length t) w y
   got (node k n t vs, r, z)
 

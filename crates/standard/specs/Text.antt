@@ -75,10 +75,10 @@ faultDue ss s p (b ∷ bs) (r ∷ rs) = if (within r b) (faultDue ss s (suc p) b
 abbrev pub faultIn : List Sequence → List ℕ → Fault
 faultIn ss bs = faultDue ss 0 0 bs []
 
--- where it is, if there is one
-abbrev pub placeIn : Fault → ℕ
-placeIn flawless = 0
-placeIn (fault p) = p
+-- how many of n bytes stand before it: all where there is none
+abbrev pub goodIn : (n : ℕ) → Fault → ℕ
+goodIn n flawless = n
+goodIn n (fault p) = p
 
 abbrev pub isFlawless : Fault → Bool
 isFlawless flawless = true

@@ -58,3 +58,8 @@ pub data GoodText : (kind : ℕ) → (text : List ℕ) → Type 0 where
   string : {t : List ℕ} → Run Utf8Char t → GoodText 0xb1 t
   symbol : {t : List ℕ} → Run AsciiChar t → GoodText 0xb3 t
   other : {k : ℕ} {t : List ℕ} → ¬ (k ≡ 0xb1) → ¬ (k ≡ 0xb3) → GoodText k t
+
+-- Text that is not good, and the place of its faulty byte
+pub data BadText : (kind : ℕ) → (text : List ℕ) → (place : ℕ) → Type 0 where
+  bad-string : {t : List ℕ} {p : ℕ} → FirstFault Utf8Char t p → BadText 0xb1 t p
+  bad-symbol : {t : List ℕ} {p : ℕ} → FirstFault AsciiChar t p → BadText 0xb3 t p

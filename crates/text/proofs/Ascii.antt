@@ -16,7 +16,7 @@ use Rattle.text.specs.Steps.{asciiRun}
 use Rattle.standard.specs.Facts.{T-true, if-case, none-due}
 use Rattle.text.proofs.Sequences.{faultFrom}
 
-run-le : (bs : List ℕ) → asciiRun bs ≤ length bs
+pub run-le : (bs : List ℕ) → asciiRun bs ≤ length bs
 unfolding asciiRun
 run-le [] = omega arith
 run-le (b ∷ bs) = if-case (λ n. n ≤ suc (length bs)) (leb b 0x7f) (suc (asciiRun bs)) 0 (λ t. suc-le-suc (run-le bs)) (λ t. omega arith)

@@ -1,18 +1,18 @@
--- A part of a text: the bytes that it has, and that it is clean where it is all ASCII.
+-- A part of a text: the bytes that it has, and that all are good where it is all ASCII.
 use Prim.Native.Nat.{ℕ, zero, suc, _+_, _-_, _≤_, _<_, min}
-use mathlib.Core.Path.{_≡_, refl, sym, ap, _∙_}
+use mathlib.Core.Path.{_≡_, refl, sym, ap, subst, _∙_}
 use mathlib.Core.List.{List, [], _∷_}
 use mathlib.Core.Bool.{Bool, true}
 use native.Mathlib.Omega.{arith}
 use borrow.Author.Tests.{leb-true}
-use lib.Dec.{leb, leb·zero}
+use lib.Dec.{T, leb, leb·zero}
 use lib.ListN.{length, take, drop, length-drop, drop-of-length-le}
-use lib.Seq.{take-nil}
-use Rattle.standard.specs.Text.{Sequence, utf8, ascii, leadIn, flawless, faultDue}
-use Rattle.standard.specs.Kinds.{flaw, clean}
+use lib.Seq.{take-nil, length-take-le}
+use Rattle.standard.specs.Text.{Sequence, utf8, ascii, leadIn, Fault, flawless, fault, isFlawless, faultDue, goodIn}
+use Rattle.standard.specs.Kinds.{flaw, clean, goodLength}
 use Rattle.standard.specs.Facts.{T-true, if-case, clean-nil, none-due}
 use Rattle.text.specs.Steps.{asciiRun}
-use Rattle.text.proofs.Ascii.{single}
+use Rattle.text.proofs.Ascii.{single, run-le}
 
 take-least : (m n : ℕ) (bs : List ℕ) → m ≡ min n (length bs) → take m bs ≡ take n bs
 take-least zero zero bs e = refl
@@ -26,11 +26,31 @@ take-least (suc m) (suc n) (b ∷ bs) e = ap {B = List ℕ} (λ r. b ∷ r) (tak
 pub part-ends : (text : List ℕ) (start count end : ℕ) → end ≡ start + min count (length text - start) → take (end - start) (drop start text) ≡ take count (drop start text)
 part-ends text start count end e = take-least (end - start) count (drop start text) (rw length-drop (omega arith))
 
+-- so long is it
+pub part-length : (text : List ℕ) (start count end : ℕ) → start ≤ length text → end ≡ start + min count (length text - start) → end - start ≡ length (take count (drop start text))
+part-length text start count end h e =
+    let i : end - start ≤ length (drop start text) = rw length-drop (omega arith) in
+    sym (length-take-le (end - start) (drop start text) i) ∙ ap length (part-ends text start count end e)
+
+-- the good bytes of text without a fault, and of text with one
+pub flawless-good : (k : ℕ) (t : List ℕ) → flaw k t ≡ flawless → goodLength k t ≡ length t
+flawless-good k t e = rw e
+
+pub fault-good : (k : ℕ) (t : List ℕ) (p : ℕ) → flaw k t ≡ fault p → goodLength k t ≡ p
+fault-good k t p e = rw e
+
+clean-good : (k : ℕ) (t : List ℕ) → clean k t ≡ true → goodLength k t ≡ length t
+clean-good k t = by (flaw k t)
+  where
+    by : (f : Fault) → isFlawless f ≡ true → goodIn (length t) f ≡ length t
+    by flawless e = refl
+    by (fault p) e = absurd (subst T (sym e) tt)
+
 -- behind the end there is no text
-pub past-clean : (k : ℕ) (text : List ℕ) (start count : ℕ) → length text < start → clean k (take count (drop start text)) ≡ true
-past-clean k text start count h =
+pub past-good : (k : ℕ) (text : List ℕ) (start count : ℕ) → length text < start → goodLength k (take count (drop start text)) ≡ 0
+past-good k text start count h =
     let e : length text ≤ start = omega arith in
-    rw (drop-of-length-le, take-nil) (clean-nil k)
+    rw (drop-of-length-le, take-nil) (clean-good k [] (clean-nil k))
 
 run-flawless : (ss : List Sequence) (p n : ℕ) (bs : List ℕ) → n ≤ asciiRun bs → faultDue (single ∷ ss) 0 p (take n bs) [] ≡ flawless
 unfolding asciiRun faultDue leadIn
@@ -46,6 +66,8 @@ run-clean : (k n : ℕ) (bs : List ℕ) → n ≤ asciiRun bs → clean k (take 
 unfolding flaw faultDue utf8 ascii
 run-clean k n bs h = rw (run-flawless _ 0 n bs h, run-flawless [] 0 n bs h) (clean-nil k)
 
--- what lies in a block of ASCII is clean, whatever the kind
-pub block-clean : (k n m : ℕ) (bs : List ℕ) (b : Bool) → n ≤ m → b ≡ leb m (asciiRun bs) → b ≡ true → clean k (take n bs) ≡ true
-block-clean k n m bs b h e t = run-clean k n bs (omega (arith, leb-true m (asciiRun bs) (sym e ∙ t)))
+-- what lies in a block of ASCII is good, whatever the kind
+pub block-good : (k n m : ℕ) (bs : List ℕ) (b : Bool) → n ≤ m → b ≡ leb m (asciiRun bs) → b ≡ true → goodLength k (take n bs) ≡ n
+block-good k n m bs b h e t =
+    let i : n ≤ asciiRun bs = omega (arith, leb-true m (asciiRun bs) (sym e ∙ t)) in
+    clean-good k (take n bs) (run-clean k n bs i) ∙ length-take-le n bs (omega (arith, i, run-le bs))

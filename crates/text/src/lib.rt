@@ -5,7 +5,7 @@ ghost use Prim.Native.Nat.{_+_, _-_, _≤_, min};
 ghost use lib.Dec.{leb};
 ghost use lib.ListN.{take, drop};
 ghost use Rattle.standard.specs.Text.{from_to_, tail, utf8, ascii, leadIn, faultIn};
-ghost use Rattle.standard.specs.Kinds.{flaw, clean};
+ghost use Rattle.standard.specs.Kinds.{flaw, goodLength};
 ghost use Rattle.text.specs.InCode.{faultIs};
 ghost use Rattle.text.specs.Steps.{leadIs, stand, widthIn, asciiRun};
 
@@ -189,20 +189,21 @@ fn end_of(length: usize, start: usize, count: usize) -> usize
     start + count
 }
 
-// Whether so many bytes from `start` on are good text of a row of that kind; where there are fewer, those.
+// Of so many bytes from `start` on, which are a row's text of that kind, how many are good: all, or those before the first fault.
+// Where the text has fewer bytes there, it is of those.
 // 16 bytes of ASCII are good for every kind: where they stand there, a short text needs no look at its own end.
-pub fn is_clean(kind: u64, text: &[u8], start: usize, count: usize) -> bool
-    ensures { λ r. ⌜ r ≡ clean kind (take count (drop start (now (text .entry)))) ⌝ }
+pub fn good_length(kind: u64, text: &[u8], start: usize, count: usize) -> usize
+    ensures { λ r. ⌜ r ≡ goodLength kind (take count (drop start (now (text .entry)))) ⌝ }
 {
     if count <= 16 && ascii_block(text, start) {
-        return true;
+        return count;
     }
     if text.len() < start {
-        return true;
+        return 0;
     }
     let end = end_of(text.len(), start, count);
     match flaw_of(kind, &text[start..end]) {
-        Fault::Flawless => true,
-        Fault::At(_) => false,
+        Fault::Flawless => end - start,
+        Fault::At(place) => place,
     }
 }

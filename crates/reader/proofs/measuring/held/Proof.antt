@@ -1,4 +1,4 @@
--- `held` gives a refusal the array's place.
+-- `held` gives a refusal the array's place, but for that of a byte of text.
 use borrow.Author.Needs.{needs}
 use Rattle.reader.specs.Measuring.{heldAt}
 use Rattle.reader.proofs.measuring.held.Statement.{statement}
@@ -11,6 +11,7 @@ held-spec =
     (tie.spec
     (λ c. search needs)
     (λ c. search needs)
+    (λ c. rw (c .before .before .m2 .given .1, c .if1 .taken))
     (λ c κs. search needs)
     (λ c. rw (c .before .m .given .1))
-    (λ c. rw (c .before .before .m2 .given .1) (c .refuse .ensures)))
+    (λ c. rw (c .before .before .before .m2 .given .1, c .before .if1 .left) (c .refuse .ensures)))

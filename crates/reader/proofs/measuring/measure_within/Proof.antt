@@ -13,7 +13,7 @@ measure-within-spec =
     tie.close
     (tie.spec
     (λ c κs. search needs)
-    (λ c κs. search needs)
-    (λ c. ap measuredIs (c .refuse .ensures) ∙ measure-no _ _ (sym (c .before .before .is-in-force .ensures) ∙ not-true _ (c .before .if1 .taken)))
+    (λ c. measure-no _ _ (sym (c .before .is-in-force .ensures) ∙ not-true _ (c .if1 .taken)))
     (λ c κs. omega (arith, c .before .before .before .good))
-    (λ c. measure-is _ _ (sym (c .before .before .is-in-force .ensures) ∙ not-false _ (c .before .if1 .left)) _ (c .many .ensures)))
+    (λ c κs. search needs)
+    (λ c. ap measuredIs (c .settled .ensures) ∙ measure-is _ _ (sym (c .before .before .before .is-in-force .ensures) ∙ not-false _ (c .before .before .if1 .left)) _ (c .before .many .ensures)))
