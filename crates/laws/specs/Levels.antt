@@ -148,7 +148,7 @@ tree-higher (suc l) c i j (k ∷ []) x = same
 tree-higher (suc l) c i j (k ∷ n ∷ w) x = after (need (isKind (styleOf k)) kindUnknown (at i)) (λ u.
     after (need (allowed c k) elementUnfit (at i)) (λ u. after (need (naming (spotIn (styleOf k) n)) elementUnfit (at i)) (λ u. after (need (ranged (styleOf k) k n) numberOutside (at i)) (λ u.
     after (letter i (letters (styleOf k) n) x) (λ a. after (need (clean k (a .0)) textAmiss (at (j + goodLength k (a .0)))) (λ u.
-    then (several-higher (λ d m o u y. tree l d m o u y) (λ d m o u y. tree (suc l) d m o u y) (tree-higher l) (children (styleOf k) n) (spotIn (styleOf k) n) (i + 1) (j + length (a .0)) w (a .1)) (λ b. same)))))))
+    then (several-higher (λ d m o u y. tree l d m o u y) (λ d m o u y. tree (suc l) d m o u y) (tree-higher l) (children (styleOf k) n) (spotIn (styleOf k) n) (i + 1) (j + letters (styleOf k) n) w (a .1)) (λ b. same)))))))
 
 table-suc : (l : ℕ) (w x : List ℕ) → Higher (table l w x) (table (suc l) w x)
 unfolding table

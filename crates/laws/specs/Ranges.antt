@@ -91,7 +91,7 @@ tree-range (suc l) c i j (k ∷ []) x = refusal′ tt
 tree-range (suc l) c i j (k ∷ n ∷ w) x =
     then (needed (isKind (styleOf k)) kindUnknown (at i) tt) (λ u. then (needed (allowed c k) elementUnfit (at i) tt) (λ u. then (needed (naming (spotIn (styleOf k) n)) elementUnfit (at i) tt) (λ u. then (needed (ranged (styleOf k) k n) numberOutside (at i) tt) (λ u.
     then (letter-range i (letters (styleOf k) n) x) (λ a. then (needed (clean k (a .0)) textAmiss (at (j + goodLength k (a .0))) tt) (λ u.
-    then (several-range (λ c i j w x. tree l c i j w x) (tree-range l) (children (styleOf k) n) (spotIn (styleOf k) n) (i + 1) (j + length (a .0)) w (a .1)) (λ b. value′)))))))
+    then (several-range (λ c i j w x. tree l c i j w x) (tree-range l) (children (styleOf k) n) (spotIn (styleOf k) n) (i + 1) (j + letters (styleOf k) n) w (a .1)) (λ b. value′)))))))
 
 spent-range : {xs : List ℕ} (a i : ℕ) (r : List ℕ) → T (among xs a) → Within xs (spent a i r)
 unfolding spent

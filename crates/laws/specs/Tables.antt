@@ -1,13 +1,13 @@
 -- A table holds exactly one value: the valid one whose rows and text it is.
 use Prim.Native.Nat.{ℕ, zero, suc, _+_, _*_, _-_, _/_, _%_}
-use mathlib.Core.Path.{_≡_, refl, sym, ap, _∙_}
+use mathlib.Core.Path.{_≡_, refl, sym, ap, subst, _∙_}
 use mathlib.Core.List.{List, [], _∷_, _++_, append-assoc, append-nil}
 use mathlib.Core.Bool.{Bool, true, false, not, _||_}
 use native.Mathlib.Omega.{arith}
 use lib.Dec.{T, eqb, leb, le→leb, leb→le}
 use lib.ListN.{length, length-append, take-append-drop}
 use lib.Seq.{length-take-le, take-at, drop-at}
-use Rattle.standard.specs.Answer.{Answer, got, at, rowsAmiss, kindUnknown, elementUnfit, numberOutside, textAmiss}
+use Rattle.standard.specs.Answer.{Answer, got, refuse, at, byte, _>>=_, need, rowsAmiss, kindUnknown, elementUnfit, numberOutside, textAmiss}
 use Rattle.standard.specs.Tree.{Tree, node, Trees, none, more, count, rows, rows*, text, text*}
 use Rattle.standard.specs.Kinds.{Style, foreign, numbered, blob, lettered, listed, mapped, arrayed, describing, styleOf, isKind, member, nameable, clean, goodLength, countIn, kindIn}
 use Rattle.standard.specs.Table.{most, Spot, any, allowed, naming, ranged, letters, children, spotIn, All, Valid, letter, several, row, tree, spent, table}
@@ -67,7 +67,7 @@ tree-complete (suc l) c (node k n t cs) h i j r x =
       letter-at i (letters (styleOf k) n) t (text* cs ++ x) (h .0 .long),
       good-clean (h .0 .good),
       ← h .0 .full,
-      several-complete (Valid l) (λ c i j w x. tree l c i j w x) (tree-complete l) cs (spotIn (styleOf k) n) (h .1) (i + 1) (j + length t) r x,
+      several-complete (Valid l) (λ c i j w x. tree l c i j w x) (tree-complete l) cs (spotIn (styleOf k) n) (h .1) (i + 1) (j + letters (styleOf k) n) r x,
     )
 
 -- f takes only what P says
@@ -95,7 +95,7 @@ tree-sound (suc l) c i j (k ∷ []) x = no′
 tree-sound (suc l) c i j (k ∷ n ∷ w) x =
     on (need-holds (isKind (styleOf k)) kindUnknown (at i)) (λ u o. on (need-holds (allowed c k) elementUnfit (at i)) (λ u p. on (need-holds (naming (spotIn (styleOf k) n)) elementUnfit (at i)) (λ u v. on (need-holds (ranged (styleOf k) k n) numberOutside (at i)) (λ u q.
     on (letter-sound i (letters (styleOf k) n) x) (λ a h. on (need-holds (clean k (a .0)) textAmiss (at (j + goodLength k (a .0)))) (λ u s.
-    on (several-sound (Valid l) (λ c i j w x. tree l c i j w x) (tree-sound l) (children (styleOf k) n) (spotIn (styleOf k) n) (i + 1) (j + length (a .0)) w (a .1)) (λ b e.
+    on (several-sound (Valid l) (λ c i j w x. tree l c i j w x) (tree-sound l) (children (styleOf k) n) (spotIn (styleOf k) n) (i + 1) (j + letters (styleOf k) n) w (a .1)) (λ b e.
     yes′ (
       ap (λ (z : List ℕ). k ∷ n ∷ z) (e .0),
       rw (append-assoc (a .0) (text* (b .0)) (b .2), ← e .1) (h .0),
@@ -123,3 +123,47 @@ table-sound l w x = on (need-holds (eqb (length w % 2) 0) rowsAmiss (at 0)) (λ 
 
 pub table-holds : (l : ℕ) (w x : List ℕ) (v : Tree) → table l w x ≡ got v → (w ≡ rows v) × (x ≡ text v) × Valid l any v
 table-holds l w x v e = out (rw e at (table-sound l w x))
+
+-- No place of a table is that of a byte that is read
+
+pub data Placed {A : Type 0} : Answer A → Type 0 where
+  value′ : {a : A} → Placed (got a)
+  at′ : {x p : ℕ} → Placed (refuse x (at p))
+
+atPlace : {A : Type 0} → Answer A → Bool
+atPlace (got a) = true
+atPlace (refuse x (at p)) = true
+atPlace (refuse x (byte p)) = false
+
+pub no-byte : {A : Type 0} {x p : ℕ} {m : Answer A} → Placed m → m ≡ refuse x (byte p) → ⊥
+unfolding atPlace
+no-byte h e = subst T (ap atPlace e) (told h)
+  where
+    told : {A : Type 0} {m : Answer A} → Placed m → T (atPlace m)
+    told value′ = tt
+    told at′ = tt
+
+then : {A B : Type 0} {m : Answer A} {k : A → Answer B} → Placed m → ((a : A) → Placed (k a)) → Placed (_>>=_ m k)
+then (value′ {a = a}) f = f a
+then at′ f = at′
+
+needed : (b : Bool) (x p : ℕ) → Placed (need b x (at p))
+needed true x p = value′
+needed false x p = at′
+
+pub several-placed : (f : Spot → ℕ → ℕ → List ℕ → List ℕ → Answer (Tree × List ℕ × List ℕ)) → ((c : Spot) (i j : ℕ) (w x : List ℕ) → Placed (f c i j w x)) → (n : ℕ) (c : Spot) (i j : ℕ) (w x : List ℕ) → Placed (several f c n i j w x)
+unfolding several
+several-placed f g zero c i j w x = value′
+several-placed f g (suc n) c i j w x = then (g c i j w x) (λ a. then (several-placed f g n c (i + (length w - length (a .1)) / 2) (j + (length x - length (a .2))) (a .1) (a .2)) (λ b. value′))
+
+pub tree-placed : (l : ℕ) (c : Spot) (i j : ℕ) (w x : List ℕ) → Placed (tree l c i j w x)
+unfolding tree row letter
+tree-placed zero c i j [] x = at′
+tree-placed zero c i j (k ∷ []) x = at′
+tree-placed zero c i j (k ∷ n ∷ w) x = then (needed (isKind (styleOf k)) kindUnknown i) (λ u. at′)
+tree-placed (suc l) c i j [] x = at′
+tree-placed (suc l) c i j (k ∷ []) x = at′
+tree-placed (suc l) c i j (k ∷ n ∷ w) x =
+    then (needed (isKind (styleOf k)) kindUnknown i) (λ u. then (needed (allowed c k) elementUnfit i) (λ u. then (needed (naming (spotIn (styleOf k) n)) elementUnfit i) (λ u. then (needed (ranged (styleOf k) k n) numberOutside i) (λ u.
+    then (then (needed (leb (letters (styleOf k) n) (length x)) textAmiss i) (λ u. value′)) (λ a. then (needed (clean k (a .0)) textAmiss (j + goodLength k (a .0))) (λ u.
+    then (several-placed (λ d m o u y. tree l d m o u y) (tree-placed l) (children (styleOf k) n) (spotIn (styleOf k) n) (i + 1) (j + letters (styleOf k) n) w (a .1)) (λ b. value′)))))))

@@ -113,7 +113,7 @@ row f c i j k n w x = do
   need (ranged (styleOf k) k n) numberOutside (at i)
   (t, y) ← letter i (letters (styleOf k) n) x
   need (clean k t) textAmiss (at (j + goodLength k t))
-  (vs, r, z) ← several f (spotIn (styleOf k) n) (children (styleOf k) n) (i + 1) (j + length t) w y
+  (vs, r, z) ← several f (spotIn (styleOf k) n) (children (styleOf k) n) (i + 1) (j + letters (styleOf k) n) w y
   got (node k n t vs, r, z)
 
 -- the value at row i, of at most so many levels

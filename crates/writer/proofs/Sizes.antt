@@ -8,12 +8,14 @@ use native.Mathlib.Omega.{arith}
 use borrow.Author.Tests.{lt-ltb, le-ltb, le-leb, lt-leb, eq-eqb, ne-eqb}
 use lib.Dec.{T, eqb, eqb→eq, leb, leb→le, ltb, ltb→lt, lit<}
 use lib.ListN.{length, take, length-append}
+use lib.Seq.{length-take-le}
 use Rattle.standard.specs.Choose.{if}
-use Rattle.standard.specs.Kinds.{Short, never, flag, unsigned, signed, Style, foreign, numbered, blob, lettered, listed, mapped, arrayed, describing, kinds, styleOf, isKind, member, fair, clean, countIn, kindIn}
+use Rattle.standard.specs.Kinds.{Short, never, flag, unsigned, signed, Style, foreign, numbered, blob, lettered, listed, mapped, arrayed, describing, kinds, styleOf, isKind, member, fair, goodLength, countIn, kindIn}
 use Rattle.standard.specs.Table.{most, Spot, any, like, ranged, letters, children, spotIn}
 use Rattle.standard.specs.Encode.{shortEnd, fitsByte, shortest}
 use Rattle.standard.specs.Facts.{and-left, and-right}
 use Rattle.laws.specs.Numbers.{length-be}
+use Rattle.laws.specs.Texts.{all-good, some-bad}
 use Rattle.standard.proofs.Lookup.{Rest}
 use Rattle.writer.specs.Heads.{enclosure, head, itemWidth, arrayWidth, Mode, values, elements}
 use Rattle.writer.specs.Marks.{markWidth}
@@ -111,13 +113,18 @@ module _ (k n : ℕ) (x : List ℕ) where
   unfolding textSize
   text-short h = rw (lt-leb n (length x) h, and-false (leb n most))
 
-  pub text-bad : clean k (take n x) ≡ false → 0 ≡ textSize k n x
+  -- it is all there, and g bytes of it are good
+  pub text-bad : n ≤ length x → (g : ℕ) → g ≡ goodLength k (take n x) → g < n → 0 ≡ textSize k n x
   unfolding textSize
-  text-bad e = rw (e, and-false (leb n (length x)), and-false (leb n most))
+  text-bad i g e h =
+      let b = some-bad k (take n x) (omega (arith, e, h, length-take-le n x i)) in
+      rw (b, and-false (leb n (length x)), and-false (leb n most))
 
-  pub text-good : n ≤ most → n ≤ length x → clean k (take n x) ≡ true → (z : ℕ) → z ≡ if (ltb n shortEnd) 2 5 → z + n ≡ textSize k n x
+  pub text-good : n ≤ most → n ≤ length x → (g : ℕ) → g ≡ goodLength k (take n x) → n ≤ g → (z : ℕ) → z ≡ if (ltb n shortEnd) 2 5 → z + n ≡ textSize k n x
   unfolding textSize
-  text-good h i e z f = rw (le-leb n most h, le-leb n (length x) i, e, f)
+  text-good h i g e j z f =
+      let b = all-good k (take n x) (omega (arith, e, j, length-take-le n x i)) in
+      rw (le-leb n most h, le-leb n (length x) i, b, f)
 
 -- Rows with children
 

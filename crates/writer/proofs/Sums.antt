@@ -9,10 +9,10 @@ use lib.Dec.{eqb, leb}
 use lib.ListN.{length, take, drop, length-append, length-drop}
 use lib.Seq.{drop-drop, drop-at, sets}
 use Rattle.standard.specs.Choose.{if}
-use Rattle.standard.specs.Answer.{Answer, got, refuse, Place, at, _>>=_, _>>_, need, kindUnknown, tooDeep, elementUnfit, numberOutside, textAmiss}
+use Rattle.standard.specs.Answer.{Answer, got, refuse, Place, at, byte, _>>=_, _>>_, need, kindUnknown, tooDeep, elementUnfit, numberOutside, textAmiss}
 use Rattle.standard.specs.Bytes.{be}
 use Rattle.standard.specs.Tree.{Tree, node, Trees, none, more, rows, text, text*, tall, tall*}
-use Rattle.standard.specs.Kinds.{Style, foreign, numbered, blob, lettered, listed, mapped, arrayed, describing, styleOf, isKind, clean, countIn}
+use Rattle.standard.specs.Kinds.{Style, foreign, numbered, blob, lettered, listed, mapped, arrayed, describing, styleOf, isKind, clean, goodLength, countIn}
 use Rattle.standard.specs.Table.{Spot, allowed, naming, ranged, letters, children, spotIn, Row, All, Valid, letter, several, row, tree}
 use Rattle.standard.specs.Encode.{encode, encode*, item, payloads}
 use Rattle.standard.specs.Facts.{if-case}
@@ -20,7 +20,8 @@ use Rattle.laws.specs.Answers.{out}
 use Rattle.laws.specs.Bounds.{rows-length}
 use Rattle.laws.specs.Numbers.{length-be}
 use Rattle.laws.specs.Stores.{sets-append, put-on}
-use Rattle.laws.specs.Tables.{tree-sound}
+use Rattle.laws.specs.Tables as tables
+use Rattle.laws.specs.Tables.{tree-sound, Placed, at′, several-placed, tree-placed}
 use Rattle.writer.specs.Heads.{bodyOf, Mode, values, elements, modeOf, inside, written, written*}
 use Rattle.writer.specs.Marks.{markWidth, marks, marks*}
 use Rattle.writer.specs.Rows.{check}
@@ -40,38 +41,38 @@ need-then true x p m n k e = e
 need-then false x p m n k e = refl
 
 -- the children of a checked row, and the value that they make with it
-grown : (l : ℕ) (i : ℕ) (w x : List ℕ) → ℕ × ℕ → Answer (Tree × List ℕ × List ℕ)
-grown l i w x (k, n) = do
-  (vs, r, z) ← several (λ d j u y. tree l d j u y) (spotIn (styleOf k) n) (children (styleOf k) n) (i + 1) w (drop (letters (styleOf k) n) x)
+grown : (l : ℕ) (i j : ℕ) (w x : List ℕ) → ℕ × ℕ → Answer (Tree × List ℕ × List ℕ)
+grown l i j w x (k, n) = do
+  (vs, r, z) ← several (λ d m o u y. tree l d m o u y) (spotIn (styleOf k) n) (children (styleOf k) n) (i + 1) (j + letters (styleOf k) n) w (drop (letters (styleOf k) n) x)
   got (node k n (take (letters (styleOf k) n) x) vs, r, z)
 
-tree-checked : (l : ℕ) (c : Spot) (i : ℕ) (w x : List ℕ) → tree l c i w x ≡ _>>=_ (check l c i w x) (grown (l - 1) i (drop 2 w) x)
+tree-checked : (l : ℕ) (c : Spot) (i j : ℕ) (w x : List ℕ) → tree l c i j w x ≡ _>>=_ (check l c i j w x) (grown (l - 1) i j (drop 2 w) x)
 unfolding tree row letter check grown
-tree-checked zero c i [] x = refl
-tree-checked zero c i (k ∷ []) x = refl
-tree-checked zero c i (k ∷ n ∷ w) x = go (isKind (styleOf k))
+tree-checked zero c i j [] x = refl
+tree-checked zero c i j (k ∷ []) x = refl
+tree-checked zero c i j (k ∷ n ∷ w) x = go (isKind (styleOf k))
   where
-    go : (a : Bool) → _≡_ {A = Answer (Tree × List ℕ × List ℕ)} (_>>_ (need a kindUnknown (at i)) (refuse tooDeep (at i))) (_>>=_ (_>>_ {B = ℕ × ℕ} (need a kindUnknown (at i)) (refuse tooDeep (at i))) (grown 0 i w x))
+    go : (a : Bool) → _≡_ {A = Answer (Tree × List ℕ × List ℕ)} (_>>_ (need a kindUnknown (at i)) (refuse tooDeep (at i))) (_>>=_ (_>>_ {B = ℕ × ℕ} (need a kindUnknown (at i)) (refuse tooDeep (at i))) (grown 0 i j w x))
     go true = refl
     go false = refl
-tree-checked (suc l) c i [] x = refl
-tree-checked (suc l) c i (k ∷ []) x = refl
-tree-checked (suc l) c i (k ∷ n ∷ w) x =
+tree-checked (suc l) c i j [] x = refl
+tree-checked (suc l) c i j (k ∷ []) x = refl
+tree-checked (suc l) c i j (k ∷ n ∷ w) x =
     let s = styleOf k in
     let cut : List ℕ × List ℕ = (take (letters s n) x, drop (letters s n) x) in
-    let below : List ℕ × List ℕ → Answer (Tree × List ℕ × List ℕ) = λ q. _>>=_ (several (λ d j u y. tree l d j u y) (spotIn s n) (children s n) (i + 1) w (q .1)) (λ v. got (node k n (q .0) (v .0), v .1, v .2)) in
-    let last : List ℕ × List ℕ → Answer (Tree × List ℕ × List ℕ) = λ q. _>>_ (need (clean k (q .0)) textAmiss (at i)) (below q) in
+    let below : List ℕ × List ℕ → Answer (Tree × List ℕ × List ℕ) = λ q. _>>=_ (several (λ d m o u y. tree l d m o u y) (spotIn s n) (children s n) (i + 1) (j + letters s n) w (q .1)) (λ v. got (node k n (q .0) (v .0), v .1, v .2)) in
+    let last : List ℕ × List ℕ → Answer (Tree × List ℕ × List ℕ) = λ q. _>>_ (need (clean k (q .0)) textAmiss (at (j + goodLength k (q .0)))) (below q) in
     let e : suc l - 1 ≡ l = omega arith in
-    rw e (sym (need-then (isKind s) kindUnknown (at i) _ _ (grown l i w x) (need-then (allowed c k) elementUnfit (at i) _ _ (grown l i w x) (need-then (naming (spotIn s n)) elementUnfit (at i) _ _ (grown l i w x) (need-then (ranged s k n) numberOutside (at i) _ _ (grown l i w x)
-    (need-then (leb (letters s n) (length x)) textAmiss (at i) _ (last cut) (grown l i w x) (need-then (clean k (take (letters s n) x)) textAmiss (at i) (got (k, n)) (below cut) (grown l i w x) refl)
+    rw e (sym (need-then (isKind s) kindUnknown (at i) _ _ (grown l i j w x) (need-then (allowed c k) elementUnfit (at i) _ _ (grown l i j w x) (need-then (naming (spotIn s n)) elementUnfit (at i) _ _ (grown l i j w x) (need-then (ranged s k n) numberOutside (at i) _ _ (grown l i j w x)
+    (need-then (leb (letters s n) (length x)) textAmiss (at i) _ (last cut) (grown l i j w x) (need-then (clean k (take (letters s n) x)) textAmiss (at (j + goodLength k (take (letters s n) x))) (got (k, n)) (below cut) (grown l i j w x) refl)
     ∙ sym (need-then (leb (letters s n) (length x)) textAmiss (at i) (got cut) (last cut) last refl)))))))
 
 -- The value at a place, and the checks of its row
 abbrev pub treeAt : (w x : List ℕ) → (l : ℕ) → Spot → Extent → Answer (Tree × List ℕ × List ℕ)
-treeAt w x l c o = tree l c (o .row) (drop (2 * (o .row)) w) (drop (o .text) x)
+treeAt w x l c o = tree l c (o .row) (o .text) (drop (2 * (o .row)) w) (drop (o .text) x)
 
 abbrev pub checkAt : (w x : List ℕ) → (l : ℕ) → Spot → Extent → Answer (ℕ × ℕ)
-checkAt w x l c o = check l c (o .row) (drop (2 * (o .row)) w) (drop (o .text) x)
+checkAt w x l c o = check l c (o .row) (o .text) (drop (2 * (o .row)) w) (drop (o .text) x)
 
 -- the first child of a row of kind k with number n, and all of them
 abbrev pub under : Extent → (kind number : ℕ) → Extent
@@ -89,7 +90,7 @@ next-row w i =
 pub value-is : (w x : List ℕ) (l : ℕ) (c : Spot) (o : Extent) (k n : ℕ) → checkAt w x l c o ≡ got (k, n)
     → treeAt w x l c o ≡ _>>=_ (below w x l o k n) (λ q. got (node k n (take (letters (styleOf k) n) (drop (o .text) x)) (q .0), q .1, q .2))
 unfolding grown
-value-is w x l c o k n e = tree-checked l c (o .row) (drop (2 * (o .row)) w) (drop (o .text) x) ∙ rw (e, next-row w (o .row), drop-drop (letters (styleOf k) n) (o .text) x)
+value-is w x l c o k n e = tree-checked l c (o .row) (o .text) (drop (2 * (o .row)) w) (drop (o .text) x) ∙ rw (e, next-row w (o .row), drop-drop (letters (styleOf k) n) (o .text) x)
 
 -- What a value adds
 
@@ -230,7 +231,7 @@ total-step : (c : Spot) (o : Extent) (v : Tree) (a : Answer (Trees × List ℕ �
 unfolding totalFrom tall text marks
 total-step c o v (got (vs, u, y)) =
     ap Fits (same (omega arith) (omega (arith, length-append (text v) (text* vs))) (omega (arith, more-size (modeOf c) v vs)) (omega (arith, length-append (marks v) (marks* vs))))
-total-step c o v (refuse x (at p)) = refl
+total-step c o v (refuse x p) = refl
 
 some : (v : Tree) → 0 < tall v
 unfolding tall
@@ -242,7 +243,7 @@ rest-is w a u i n e h = sym (drop-at a u n h) ∙ ap (drop n) (sym e) ∙ drop-d
 -- v is the value at o
 module _ (w x : List ℕ) (l : ℕ) (c : Spot) (o : Extent) (v : Tree) (u y : List ℕ) (t : treeAt w x l c o ≡ got (v, u, y)) where
   pub value-sound : (drop (2 * (o .row)) w ≡ rows v ++ u) × (drop (o .text) x ≡ text v ++ y) × Valid l c v
-  value-sound = out (rw t at (tree-sound l c (o .row) (drop (2 * (o .row)) w) (drop (o .text) x)))
+  value-sound = out (rw t at (tree-sound l c (o .row) (o .text) (drop (2 * (o .row)) w) (drop (o .text) x)))
 
   values-step : (n : ℕ) → 0 < n → valuesAt w x l c n o ≡ joined v (valuesAt w x l c (n - 1) (reach c o v))
   unfolding several
@@ -251,8 +252,9 @@ module _ (w x : List ℕ) (l : ℕ) (c : Spot) (o : Extent) (v : Tree) (u y : Li
       let s = value-sound in
       let d : 2 * (o .row) + 2 * tall v ≡ 2 * (o .row + tall v) = omega arith in
       let r : o .row + (length (drop (2 * (o .row)) w) - length u) / 2 ≡ o .row + tall v = omega (arith, simp length-append at (ap length (s .0)), rows-length v) in
+      let e : o .text + (length (drop (o .text) x) - length y) ≡ o .text + length (text v) = omega (arith, simp length-append at (ap length (s .1))) in
       let i : suc n - 1 ≡ n = omega arith in
-      rw (t, r, rest-is w (rows v) u (2 * (o .row)) (2 * tall v) (s .0) (rows-length v), rest-is x (text v) y (o .text) (length (text v)) (s .1) refl, d, i)
+      rw (t, r, e, rest-is w (rows v) u (2 * (o .row)) (2 * tall v) (s .0) (rows-length v), rest-is x (text v) y (o .text) (length (text v)) (s .1) refl, d, i)
 
   module _ (g : Within w x o) (p : Sure c) where
     pub value-within : Within w x (reach c o v)
@@ -298,7 +300,10 @@ comes-found f a r h = (h .0 ∙ f .sum, f .marks a (h .1))
 
 -- a check that fails is the refusal of all
 pub check-no : (w x : List ℕ) (l : ℕ) (c : Spot) (o : Extent) (a : ℕ) (p : Place) → checkAt w x l c o ≡ refuse a p → treeAt w x l c o ≡ refuse a p
-check-no w x l c o a p e = tree-checked l c (o .row) (drop (2 * (o .row)) w) (drop (o .text) x) ∙ rw e
+check-no w x l c o a p e = tree-checked l c (o .row) (o .text) (drop (2 * (o .row)) w) (drop (o .text) x) ∙ rw e
+
+pub no-byte : (w x : List ℕ) (l : ℕ) (c : Spot) (o : Extent) (a p : ℕ) → treeAt w x l c o ≡ refuse a (byte p) → ⊥
+no-byte w x l c o a p e = tables.no-byte (tree-placed l c (o .row) (o .text) (drop (2 * (o .row)) w) (drop (o .text) x)) e
 
 pub comes-no : {w x : List ℕ} {l : ℕ} {c : Spot} {o₀ o : Extent} {n₀ m : ℕ} {b₀ b : List ℕ} → Comes w x l c o₀ n₀ b₀ o m b → 0 < m → (a i : ℕ) → checkAt w x l c o ≡ refuse a (at i)
     → Finds w x l c n₀ o₀ b₀ b (Refused (record { number = a; place = i }))
@@ -307,6 +312,9 @@ comes-no {w = w} {x = x} {l = l} {c = c} {o = o} {m = m} {b = b} f h a i e =
     comes-found f b (Refused r) (finds-no w x l c m o b b r h (check-no w x l c o a (at i) e))
 
 -- What an answer says of the values
+
+pub values-placed : (w x : List ℕ) (l : ℕ) (c : Spot) (n : ℕ) (o : Extent) → Placed (valuesAt w x l c n o)
+values-placed w x l c n o = several-placed (λ d i j u y. tree l d i j u y) (tree-placed l) n c (o .row) (o .text) (drop (2 * (o .row)) w) (drop (o .text) x)
 
 pub record Found (c : Spot) (o : Extent) (a : Answer (Trees × List ℕ × List ℕ)) (e : Extent) : Type 0 where
   pub trees : Trees
@@ -323,11 +331,11 @@ unfolding totalFrom
 found c o (got (vs, u, y)) e h =
     let q : e ≡ record { row = o .row + tall* vs; text = o .text + length (text* vs); size = o .size + sizeIn c vs; mark = o .mark + length (marks* vs) } = cc in
     record { trees = vs; rest = u; tail = y; isGot = refl; row = ap (λ z. z .row) q; letter = ap (λ z. z .text) q; size = ap (λ z. z .size) q; mark = ap (λ z. z .mark) q }
-found c o (refuse x (at p)) e h = let z : _≡_ {A = ℕ} 0 1 = cc in absurd (omega arith)
+found c o (refuse x p) e h = let z : _≡_ {A = ℕ} 0 1 = cc in absurd (omega arith)
 
-pub unfit : (c : Spot) (o : Extent) (a : Answer (Trees × List ℕ × List ℕ)) (f : Refusal) → Refused f ≡ totalFrom c o a → a ≡ refuse (f .number) (at (f .place))
+pub unfit : (c : Spot) (o : Extent) (a : Answer (Trees × List ℕ × List ℕ)) (f : Refusal) → Placed a → Refused f ≡ totalFrom c o a → a ≡ refuse (f .number) (at (f .place))
 unfolding totalFrom
-unfit c o (got (vs, u, y)) f h = let z : _≡_ {A = ℕ} 0 1 = cc in absurd (omega arith)
-unfit c o (refuse x (at p)) f h =
+unfit c o (got (vs, u, y)) f t h = let z : _≡_ {A = ℕ} 0 1 = cc in absurd (omega arith)
+unfit c o (refuse x (at p)) f at′ h =
     let q : f ≡ record { number = x; place = p } = cc in
     rw q

@@ -9,10 +9,10 @@ use lib.Dec.{T, eqb, eqb→eq, leb, leb→le, ltb, ltb→lt}
 use lib.ListN.{length, take, drop, length-append, length-drop}
 use lib.Seq.{sets}
 use Rattle.standard.specs.Choose.{if}
-use Rattle.standard.specs.Answer.{Answer, got, refuse, at, kindUnknown, elementUnfit, numberOutside, textAmiss}
+use Rattle.standard.specs.Answer.{Answer, got, refuse, at, byte, kindUnknown, elementUnfit, numberOutside, textAmiss}
 use Rattle.standard.specs.Bytes.{be}
 use Rattle.standard.specs.Tree.{Tree, node, Trees, text, text*, tall}
-use Rattle.standard.specs.Kinds.{Style, foreign, numbered, blob, lettered, listed, mapped, arrayed, describing, styleOf, isKind, clean, countIn, kindIn}
+use Rattle.standard.specs.Kinds.{Style, foreign, numbered, blob, lettered, listed, mapped, arrayed, describing, styleOf, isKind, clean, goodLength, countIn, kindIn}
 use Rattle.standard.specs.Table.{most, Spot, any, like, allowed, naming, ranged, letters, children, spotIn, Row, Valid}
 use Rattle.standard.specs.Encode.{shortEnd}
 use Rattle.standard.specs.Facts.{if-case, T-true, and-left, and-right, clean-nil}
@@ -33,7 +33,7 @@ use Rattle.writer.proofs.Checks.{check-good}
 use Rattle.writer.proofs.Direct.{coded-long}
 use Rattle.writer.proofs.Sizes.{countBy, spotBy, NestRow, nest-row, nest-head, nest-case, bare-closed}
 use Rattle.writer.proofs.Spots.{Sure, sure-inside, element-fits}
-use Rattle.writer.proofs.Sums.{treeAt, checkAt, under, below, value-is, check-no, sizeOf, reach, body-size, row-size, few, widths, marked-node, same, Comes, value-sound, value-within, value-comes, comes-on, comes-found, comes-no, finds-none, finds-no, Found, found, unfit}
+use Rattle.writer.proofs.Sums.{treeAt, checkAt, under, below, value-is, check-no, sizeOf, reach, body-size, row-size, few, widths, marked-node, same, Comes, value-sound, value-within, value-comes, comes-on, comes-found, comes-no, no-byte, finds-none, finds-no, Found, found, values-placed, unfit}
 
 -- What a good row says
 pub record Good (l : ℕ) (c : Spot) (w : List ℕ) (k n : ℕ) : Type 0 where
@@ -42,20 +42,20 @@ pub record Good (l : ℕ) (c : Spot) (w : List ℕ) (k n : ℕ) : Type 0 where
   pub fits : T (allowed c k)
   pub inRange : T (ranged (styleOf k) k n)
 
-checked : (l : ℕ) (c : Spot) (i : ℕ) (w x : List ℕ) → Holds (λ q. Good l c w (q .0) (q .1)) (check l c i w x)
+checked : (l : ℕ) (c : Spot) (i j : ℕ) (w x : List ℕ) → Holds (λ q. Good l c w (q .0) (q .1)) (check l c i j w x)
 unfolding check
-checked zero c i [] x = no′
-checked zero c i (k ∷ []) x = no′
-checked zero c i (k ∷ n ∷ w) x = on (need-holds (isKind (styleOf k)) kindUnknown (at i)) (λ u t. no′)
-checked (suc l) c i [] x = no′
-checked (suc l) c i (k ∷ []) x = no′
-checked (suc l) c i (k ∷ n ∷ w) x =
+checked zero c i j [] x = no′
+checked zero c i j (k ∷ []) x = no′
+checked zero c i j (k ∷ n ∷ w) x = on (need-holds (isKind (styleOf k)) kindUnknown (at i)) (λ u t. no′)
+checked (suc l) c i j [] x = no′
+checked (suc l) c i j (k ∷ []) x = no′
+checked (suc l) c i j (k ∷ n ∷ w) x =
     on (need-holds (isKind (styleOf k)) kindUnknown (at i)) (λ u a. on (need-holds (allowed c k) elementUnfit (at i)) (λ u b. on (need-holds (naming (spotIn (styleOf k) n)) elementUnfit (at i)) (λ u o. on (need-holds (ranged (styleOf k) k n) numberOutside (at i)) (λ u d.
-    on (need-holds (leb (letters (styleOf k) n) (length x)) textAmiss (at i)) (λ u e. on (need-holds (clean k (take (letters (styleOf k) n) x)) textAmiss (at i)) (λ u f.
+    on (need-holds (leb (letters (styleOf k) n) (length x)) textAmiss (at i)) (λ u e. on (need-holds (clean k (take (letters (styleOf k) n) x)) textAmiss (at (j + goodLength k (take (letters (styleOf k) n) x)))) (λ u f.
     yes′ (record { level = omega arith; words = refl; fits = b; inRange = d })))))))
 
-pub good : (l : ℕ) (c : Spot) (i : ℕ) (w x : List ℕ) (k n : ℕ) → check l c i w x ≡ got (k, n) → Good l c w k n
-good l c i w x k n e = out (rw e at (checked l c i w x))
+pub good : (l : ℕ) (c : Spot) (i j : ℕ) (w x : List ℕ) (k n : ℕ) → check l c i j w x ≡ got (k, n) → Good l c w k n
+good l c i j w x k n e = out (rw e at (checked l c i j w x))
 
 -- Turns
 
@@ -87,12 +87,12 @@ row-of (suc l) c k n t cs h = h .0
 -- the next row is good, of kind k with number n
 module _ {w x : List ℕ} {l : ℕ} {c : Spot} {o₀ o : Extent} {n₀ m : ℕ} {b₀ b : List ℕ} (y : Comes w x l c o₀ n₀ b₀ o m b) (h : 0 < m) (k n : ℕ) (q : checkAt w x l c o ≡ got (k, n)) where
   is-good : Good l c (drop (2 * (o .row)) w) k n
-  is-good = good l c (o .row) (drop (2 * (o .row)) w) (drop (o .text) x) k n q
+  is-good = good l c (o .row) (o .text) (drop (2 * (o .row)) w) (drop (o .text) x) k n q
 
   -- z is what is found of its children
   module _ (b₁ : List ℕ) (kept : length b₁ ≡ length b) (z : Sized) (r : Finds w x (l - 1) (spotIn (styleOf k) n) (children (styleOf k) n) (under o k n) b b₁ z) where
     turn-no : (f : Refusal) → z ≡ Refused f → Finds w x l c n₀ o₀ b₀ b₁ (Refused f)
-    turn-no f e = comes-found y b₁ (Refused f) (finds-no w x l c m o b b₁ f h (value-is w x l c o k n q ∙ rw (unfit (spotIn (styleOf k) n) (under o k n) (below w x l o k n) f (sym e ∙ r .0))))
+    turn-no f e = comes-found y b₁ (Refused f) (finds-no w x l c m o b b₁ f h (value-is w x l c o k n q ∙ rw (unfit (spotIn (styleOf k) n) (under o k n) (below w x l o k n) f (values-placed w x (l - 1) (spotIn (styleOf k) n) (children (styleOf k) n) (under o k n)) (sym e ∙ r .0))))
 
     module _ (e : Extent) (fits : z ≡ Fits e) where
       inner : Found (spotIn (styleOf k) n) (under o k n) (below w x l o k n) e
@@ -189,13 +189,13 @@ nest-good l c k n w h a e =
     let t = ltb→lt 0 (children (styleOf k) n) (and-left (ltb 0 (children (styleOf k) n)) (ranged (styleOf k) k n) (rw (← e) tt)) in
     let d = T-true _ (and-right (ltb 0 (children (styleOf k) n)) (ranged (styleOf k) k n) (rw (← e) tt)) in
     let r = nest-row k n t in
-    (λ i x. check-good c i k n w x (r .known) (a r) d l h (rw (r .silent) (omega arith)) (rw (r .silent) (clean-nil k)), t)
+    (λ i j x. check-good c i j k n w x (r .known) (a r) d l h (rw (r .silent) (omega arith)) (rw (r .silent) (clean-nil k)), t)
 
 -- and one that has none, or whose number is not in range, has none if it is good
-nest-bare : (l : ℕ) (c : Spot) (k n : ℕ) (w : List ℕ) → false ≡ nests (styleOf k) k n → (i : ℕ) (x : List ℕ) (j m : ℕ) → check l c i (k ∷ n ∷ w) x ≡ got (j, m) → children (styleOf j) m ≡ 0
+nest-bare : (l : ℕ) (c : Spot) (k n : ℕ) (w : List ℕ) → false ≡ nests (styleOf k) k n → (i o : ℕ) (x : List ℕ) (j m : ℕ) → check l c i o (k ∷ n ∷ w) x ≡ got (j, m) → children (styleOf j) m ≡ 0
 unfolding nests
-nest-bare l c k n w e i x j m q =
-    let g = good l c i (k ∷ n ∷ w) x j m q in
+nest-bare l c k n w e i o x j m q =
+    let g = good l c i o (k ∷ n ∷ w) x j m q in
     let a : k ≡ j = cc in
     let b : n ≡ m = cc in
     nest-case j m (λ z. z) (λ h r. absurd (subst T (sym (rw (a, b, lt-ltb 0 (children (styleOf j) m) h, T-true (ranged (styleOf j) j m) (g .inRange)) at e)) tt))
@@ -220,28 +220,28 @@ open-nests s k n r = go (eqb k 0xf0) (nests s k n)
 
 pub element-low : (l j : ℕ) (w : List ℕ) → j < 0xd0 → Nested l (like j) w 0 0 false
 unfolding allowed
-element-low l j w h i x k n q t =
-    let e : k ≡ j = eqb→eq k j (good l (like j) i w x k n q .fits) in
+element-low l j w h i o x k n q t =
+    let e : k ≡ j = eqb→eq k j (good l (like j) i o w x k n q .fits) in
     nest-case k n (λ z. z) (λ i r. absurd (omega (arith, leb→le 0xd0 k (subst T (r .fit) t))))
 
 -- a good one is of that kind
 pub nest-told : (l j : ℕ) (w : List ℕ) (k n : ℕ) → Nest l (like j) w k n → Nest l (like j) w j n
 unfolding allowed
-nest-told l j w k n h = subst (λ (i : ℕ). Nest l (like j) w i n) (eqb→eq k j (good l (like j) 0 w [] k n (h .0 0 []) .fits)) h
+nest-told l j w k n h = subst (λ (i : ℕ). Nest l (like j) w i n) (eqb→eq k j (good l (like j) 0 0 w [] k n (h .0 0 0 []) .fits)) h
 
 -- in front of words
 module _ (l j k n : ℕ) (w : List ℕ) where
   pub element-unlike : ¬ (k ≡ j) → Nested l (like j) (k ∷ n ∷ w) k n false
   unfolding allowed
-  element-unlike f i x k₁ n₁ q t =
-      let g = good l (like j) i (k ∷ n ∷ w) x k₁ n₁ q in
+  element-unlike f i o x k₁ n₁ q t =
+      let g = good l (like j) i o (k ∷ n ∷ w) x k₁ n₁ q in
       let a : k₁ ≡ k = cc in
       absurd (f (sym a ∙ eqb→eq k₁ j (g .fits)))
 
   pub element-is : k ≡ j → 0 < l → (r : Bool) → r ≡ nests (styleOf k) k n → Nested l (like j) (k ∷ n ∷ w) k n r
   unfolding allowed
   element-is f h true g = nest-good l (like j) k n w h (λ r. eq-eqb k j f) g
-  element-is f h false g = λ i x k₁ n₁ q t. nest-bare l (like j) k n w g i x k₁ n₁ q
+  element-is f h false g = λ i o x k₁ n₁ q t. nest-bare l (like j) k n w g i o x k₁ n₁ q
 
 -- A number, or letters: a row without children with y bytes of text, which takes z bytes
 pub record LeafRow (s : Style) (k n : ℕ) (x : List ℕ) (y z : ℕ) : Type 0 where
@@ -292,13 +292,13 @@ leaf-row describing k n x = (λ h. absurd (omega arith), λ h. absurd (omega ari
 pub record Leaf (l : ℕ) (w x : List ℕ) (y z : ℕ) : Type 0 where
   pub kind : ℕ
   pub number : ℕ
-  pub checks : (i : ℕ) → check l any i w x ≡ got (kind, number)
+  pub checks : (i j : ℕ) → check l any i j w x ≡ got (kind, number)
   pub row : LeafRow (styleOf kind) kind number x y z
 
 leaf : (l k n : ℕ) (w x : List ℕ) (y z : ℕ) → 0 < l → LeafRow (styleOf k) k n x y z → Leaf l (k ∷ n ∷ w) x y z
 unfolding allowed
 leaf l k n w x y z h r =
-    record { kind = k; number = n; checks = λ i. check-good any i k n w x (r .known) refl (r .inRange) l h (rw (← r .worded) (r .enough)) (rw (← r .worded) (r .clear)); row = r }
+    record { kind = k; number = n; checks = λ i j. check-good any i j k n w x (r .known) refl (r .inRange) l h (rw (← r .worded) (r .enough)) (rw (← r .worded) (r .clear)); row = r }
 
 -- What taking a row tells of it
 abbrev pub Told : (l : ℕ) (w x : List ℕ) → Taken → Type 0
@@ -306,7 +306,7 @@ Told l w x (Number z) = Leaf l w x 0 z
 Told l w x (Letters y z) = Leaf l w x y z
 Told l w x (Open k n) = Nest l any w k n × (eqb k 0xf0 ≡ false)
 Told l w x (Array j c) = (n : ℕ) × Nest l any w 0xf0 n × (kindIn n ≡ j) × (countIn n ≡ c)
-Told l w x Other = (i : ℕ) (x : List ℕ) (k n : ℕ) → check l any i w x ≡ got (k, n) → children (styleOf k) n ≡ 0
+Told l w x Other = (i j : ℕ) (x : List ℕ) (k n : ℕ) → check l any i j w x ≡ got (k, n) → children (styleOf k) n ≡ 0
 
 not-T : (b : Bool) → T (not b) → b ≡ false
 not-T true t = absurd t
@@ -314,9 +314,9 @@ not-T false t = refl
 
 told : (l : ℕ) (w x : List ℕ) → Told l w x (takenOf l w x)
 unfolding takenOf opens arrays allowed
-told zero w x = λ i y k n q. absurd (omega (arith, good zero any i w y k n q .level))
-told (suc l) [] x = λ i y k n q. absurd (omega (arith, ap length (good (suc l) any i [] y k n q .words)))
-told (suc l) (a ∷ []) x = λ i y k n q. absurd (omega (arith, ap length (good (suc l) any i (a ∷ []) y k n q .words)))
+told zero w x = λ i j y k n q. absurd (omega (arith, good zero any i j w y k n q .level))
+told (suc l) [] x = λ i j y k n q. absurd (omega (arith, ap length (good (suc l) any i j [] y k n q .words)))
+told (suc l) (a ∷ []) x = λ i j y k n q. absurd (omega (arith, ap length (good (suc l) any i j (a ∷ []) y k n q .words)))
 told (suc l) (k ∷ n ∷ w) x =
     let s = styleOf k in
     let P : Taken → Type 0 = Told (suc l) (k ∷ n ∷ w) x in
@@ -356,7 +356,7 @@ taken-plain l k n w x h z e i = taken-is l k n w x h false (bare-closed (styleOf
 
 pub values-leaf : {w x : List ℕ} {l : ℕ} {o₀ o : Extent} {n₀ m : ℕ} {b₀ b : List ℕ} → Comes w x l any o₀ n₀ b₀ o m b → 0 < m → (u z : ℕ) → Leaf l (drop (2 * (o .row)) w) (drop (o .text) x) u z → Comes w x l any o₀ n₀ b₀ (past o u z) (m - 1) b
 unfolding modeOf
-values-leaf {o = o} y h u z f = leaf-on y h (f .kind) (f .number) (f .checks (o .row)) (f .row .barren) u z (f .row .worded) (f .row .sized)
+values-leaf {o = o} y h u z f = leaf-on y h (f .kind) (f .number) (f .checks (o .row) (o .text)) (f .row .barren) u z (f .row .worded) (f .row .sized)
 
 -- what is said of another row: the place behind it, or its refusal
 abbrev pub Rowed : (w x : List ℕ) → (l : ℕ) → Extent → (n : ℕ) → (b₀ : List ℕ) → (m : ℕ) → (b : List ℕ) → Sized → Type 0
@@ -366,7 +366,7 @@ Rowed w x l o₀ n₀ b₀ m b (Refused f) = Finds w x l any n₀ o₀ b₀ b (R
 module _ {w x : List ℕ} {l : ℕ} {o₀ o : Extent} {n₀ m : ℕ} {b₀ b : List ℕ} (y : Comes w x l any o₀ n₀ b₀ o m b) (h : 0 < m) (t : takenOf l (drop (2 * (o .row)) w) (drop (o .text) x) ≡ Other) where
   pub other-on : (k n : ℕ) → checkAt w x l any o ≡ got (k, n) → Comes w x l any o₀ n₀ b₀ (beyond values o k n) (m - 1) b
   unfolding modeOf
-  other-on k n q = leaf-on y h k n q (told-as l (drop (2 * (o .row)) w) (drop (o .text) x) Other t (o .row) (drop (o .text) x) k n q) _ _ refl refl
+  other-on k n q = leaf-on y h k n q (told-as l (drop (2 * (o .row)) w) (drop (o .text) x) Other t (o .row) (o .text) (drop (o .text) x) k n q) _ _ refl refl
 
   pub other-rowed : Rowed w x l o₀ n₀ b₀ m b (passed o (checkAt w x l any o))
   other-rowed = go (checkAt w x l any o) refl
@@ -374,28 +374,30 @@ module _ {w x : List ℕ} {l : ℕ} {o₀ o : Extent} {n₀ m : ℕ} {b₀ b : L
       go : (a : Answer (ℕ × ℕ)) → checkAt w x l any o ≡ a → Rowed w x l o₀ n₀ b₀ m b (passed o a)
       go (got (k, n)) q = other-on k n q
       go (refuse a (at i)) q = comes-no y h a i q
+      go (refuse a (byte i)) q = absurd (no-byte w x l any o a i (check-no w x l any o a (byte i) q))
 
 -- an element without children, by its style s
 pub element-on : {w x : List ℕ} {l j : ℕ} {o₀ o : Extent} {n₀ m : ℕ} {b₀ b : List ℕ} → Comes w x l (like j) o₀ n₀ b₀ o m b → 0 < m → (k n : ℕ) → checkAt w x l (like j) o ≡ got (k, n)
     → Nested l (like j) (drop (2 * (o .row)) w) k n false → (s : Style) → s ≡ styleOf k → (u z : ℕ) → u ≡ letters s n → z ≡ itemWidth s → Comes w x l (like j) o₀ n₀ b₀ (past o u (z + u)) (m - 1) b
 unfolding modeOf
 element-on {w = w} {x = x} {l = l} {j = j} {o = o} y h k n q f s d u z eu ez =
-    let t = element-fits (like j) k (y .sure) (good l (like j) (o .row) (drop (2 * (o .row)) w) (drop (o .text) x) k n q .fits) refl in
-    leaf-on y h k n q (f (o .row) (drop (o .text) x) k n q t) u (z + u) (rw d at eu) (rw (item-wide (styleOf k) n 0, ← d, ← ez))
+    let t = element-fits (like j) k (y .sure) (good l (like j) (o .row) (o .text) (drop (2 * (o .row)) w) (drop (o .text) x) k n q .fits) refl in
+    leaf-on y h k n q (f (o .row) (o .text) (drop (o .text) x) k n q t) u (z + u) (rw d at eu) (rw (item-wide (styleOf k) n 0, ← d, ← ez))
 
 -- where no level is left the spot does not matter, and the first row is refused
-check-spot : (c d : Spot) (i : ℕ) (w x : List ℕ) → check 0 c i w x ≡ check 0 d i w x
+check-spot : (c d : Spot) (i j : ℕ) (w x : List ℕ) → check 0 c i j w x ≡ check 0 d i j w x
 unfolding check
-check-spot c d i [] x = refl
-check-spot c d i (k ∷ []) x = refl
-check-spot c d i (k ∷ n ∷ w) x = refl
+check-spot c d i j [] x = refl
+check-spot c d i j (k ∷ []) x = refl
+check-spot c d i j (k ∷ n ∷ w) x = refl
 
 pub deep-finds : (w x : List ℕ) (l : ℕ) (c : Spot) (n : ℕ) (o : Extent) (b : List ℕ) → l ≡ 0 → 0 < n → Finds w x l c n o b b (passed o (checkAt w x 0 any o))
 deep-finds w x l c n o b e h = rw e (go (checkAt w x 0 any o) refl)
   where
     go : (a : Answer (ℕ × ℕ)) → checkAt w x 0 any o ≡ a → Finds w x 0 c n o b b (passed o a)
-    go (got (k, m)) q = absurd (omega (arith, good 0 any (o .row) (drop (2 * (o .row)) w) (drop (o .text) x) k m q .level))
-    go (refuse a (at i)) q = finds-no w x 0 c n o b b (record { number = a; place = i }) h (check-no w x 0 c o a (at i) (check-spot c any (o .row) (drop (2 * (o .row)) w) (drop (o .text) x) ∙ q))
+    go (got (k, m)) q = absurd (omega (arith, good 0 any (o .row) (o .text) (drop (2 * (o .row)) w) (drop (o .text) x) k m q .level))
+    go (refuse a (at i)) q = finds-no w x 0 c n o b b (record { number = a; place = i }) h (check-no w x 0 c o a (at i) (check-spot c any (o .row) (o .text) (drop (2 * (o .row)) w) (drop (o .text) x) ∙ q))
+    go (refuse a (byte i)) q = absurd (no-byte w x 0 any o a i (check-no w x 0 any o a (byte i) q))
 
 -- the beginning of a table
 pub at-start : (w x : List ℕ) → Within w x begin

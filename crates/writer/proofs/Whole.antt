@@ -23,12 +23,12 @@ use Rattle.writer.specs.Sizing.{totalFrom, Marked, valuesAt, begin}
 use Rattle.writer.specs.Tables.{Fitting}
 use Rattle.writer.specs.declared.sizing.Sized.the-variants.{Fits, Refused}
 use Rattle.writer.specs.declared.sizing.Extent.{Extent}
-use Rattle.writer.proofs.Sums.{Found, found, unfit}
+use Rattle.writer.proofs.Sums.{Found, found, values-placed, unfit}
 
 -- one value from the beginning
-one-value : (l : ℕ) (w x : List ℕ) → valuesAt w x l any 1 begin ≡ _>>=_ (tree l any 0 w x) (λ q. got (more (q .0) none, q .1, q .2))
+one-value : (l : ℕ) (w x : List ℕ) → valuesAt w x l any 1 begin ≡ _>>=_ (tree l any 0 0 w x) (λ q. got (more (q .0) none, q .1, q .2))
 unfolding several
-one-value l w x = go (tree l any 0 w x)
+one-value l w x = go (tree l any 0 0 w x)
   where
     go : (a : Answer (Tree × List ℕ × List ℕ)) → _≡_ {A = Answer (Trees × List ℕ × List ℕ)} (_>>=_ a (λ q. _>>=_ {A = Trees × List ℕ × List ℕ} {B = Trees × List ℕ × List ℕ} (got (none, q .1, q .2)) (λ r. got (more (q .0) (r .0), r .1, r .2)))) (_>>=_ a (λ q. got (more (q .0) none, q .1, q .2)))
     go (got a) = refl
@@ -38,7 +38,7 @@ record One (l : ℕ) (w x : List ℕ) (e : Extent) : Type 0 where
   value : Tree
   left : List ℕ
   tail : List ℕ
-  isTree : tree l any 0 w x ≡ got (value, left, tail)
+  isTree : tree l any 0 0 w x ≡ got (value, left, tail)
   row : e .row ≡ tall value
   letter : e .text ≡ length (text value)
   size : e .size ≡ length (encode value)
@@ -48,14 +48,14 @@ record One (l : ℕ) (w x : List ℕ) (e : Extent) : Type 0 where
 
 one : (l : ℕ) (w x : List ℕ) (e : Extent) → Found any begin (valuesAt w x l any 1 begin) e → One l w x e
 unfolding modeOf encode* tall* text* marks*
-one l w x e f = go (tree l any 0 w x) refl
+one l w x e f = go (tree l any 0 0 w x) refl
   where
-    go : (a : Answer (Tree × List ℕ × List ℕ)) → tree l any 0 w x ≡ a → One l w x e
+    go : (a : Answer (Tree × List ℕ × List ℕ)) → tree l any 0 0 w x ≡ a → One l w x e
     go (got (v, u, y)) h =
         let i : _≡_ {A = Answer (Trees × List ℕ × List ℕ)} (got (more v none, u, y)) (got (f .trees, f .rest, f .tail)) = sym (one-value l w x ∙ rw h) ∙ f .isGot in
         let j : _≡_ {A = Trees × List ℕ × List ℕ} (more v none, u, y) (f .trees, f .rest, f .tail) = cc in
         let t : more v none ≡ f .trees = ap (λ q. q .0) j in
-        let s = out (rw h at (tree-sound l any 0 w x)) in
+        let s = out (rw h at (tree-sound l any 0 0 w x)) in
         record {
           value = v;
           left = u;
@@ -81,10 +81,10 @@ pub odd-no : (l : ℕ) (w x : List ℕ) → inForce l ≡ true → length w % 2 
 unfolding size bytesOf table
 odd-no l w x t h = rw (t, ne-eqb (length w % 2) 0 (λ e. omega arith))
 
-tree-no : (l : ℕ) (w x : List ℕ) (a : ℕ) (p : Place) → valuesAt w x l any 1 begin ≡ refuse a p → tree l any 0 w x ≡ refuse a p
-tree-no l w x a p e = go (tree l any 0 w x) refl
+tree-no : (l : ℕ) (w x : List ℕ) (a : ℕ) (p : Place) → valuesAt w x l any 1 begin ≡ refuse a p → tree l any 0 0 w x ≡ refuse a p
+tree-no l w x a p e = go (tree l any 0 0 w x) refl
   where
-    go : (b : Answer (Tree × List ℕ × List ℕ)) → tree l any 0 w x ≡ b → tree l any 0 w x ≡ refuse a p
+    go : (b : Answer (Tree × List ℕ × List ℕ)) → tree l any 0 0 w x ≡ b → tree l any 0 0 w x ≡ refuse a p
     go (got q) h =
         let i : _≡_ {A = Answer (Trees × List ℕ × List ℕ)} (got (more (q .0) none, q .1, q .2)) (refuse a p) = sym (one-value l w x ∙ rw h) ∙ e in
         let k : _≡_ {A = ℕ} 0 1 = cc in absurd (omega arith)
@@ -100,7 +100,7 @@ module _ (l : ℕ) (w x : List ℕ) (t : inForce l ≡ true) (h : ¬ (length w %
 
   pub value-no : (f : Refusal) → Refused f ≡ totalFrom any begin (valuesAt w x l any 1 begin) → size l w x ≡ refuse (f .number) (at (f .place))
   unfolding size bytesOf table
-  value-no f e = rw (t, even, tree-no l w x (f .number) (at (f .place)) (unfit any begin (valuesAt w x l any 1 begin) f e))
+  value-no f e = rw (t, even, tree-no l w x (f .number) (at (f .place)) (unfit any begin (valuesAt w x l any 1 begin) f (values-placed w x l any 1 begin) e))
 
   module _ (e : Extent) (f : Fits e ≡ totalFrom any begin (valuesAt w x l any 1 begin)) where
     o : One l w x e

@@ -16,15 +16,15 @@ abbrev pub spotIs : IsArrayElement → Spot
 spotIs False = any
 spotIs (OfKind k) = like k
 
--- a row's kind and number, or its refusal at that row
-abbrev pub checkedIs : (row : ℕ) → Checked → Answer (ℕ × ℕ)
-checkedIs i (Good s k n) = got (k, n)
-checkedIs i (Bad x) = refuse x (at i)
+-- a row's kind and number, or its refusal
+abbrev pub checkedIs : Checked → Answer (ℕ × ℕ)
+checkedIs (Good s k n) = got (k, n)
+checkedIs (Bad x p) = refuse x (at p)
 
 -- a good row comes with the style of its kind
 abbrev pub Styled : Checked → Type 0
 Styled (Good s k n) = styleIs s ≡ styleOf k
-Styled (Bad x) = Unit {0}
+Styled (Bad x p) = Unit {0}
 
 -- the length of what is written, or the refusal
 abbrev pub writtenIs : Written → Answer ℕ

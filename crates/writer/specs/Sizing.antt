@@ -8,7 +8,7 @@ use lib.ListN.{length, take, drop}
 use lib.Seq.{sets}
 use Rattle.standard.specs.Bytes.{be}
 use Rattle.standard.specs.Choose.{if}
-use Rattle.standard.specs.Answer.{Answer, got, refuse, at}
+use Rattle.standard.specs.Answer.{Answer, got, refuse, offset}
 use Rattle.standard.specs.Tree.{Trees, tall*, text*}
 use Rattle.standard.specs.Kinds.{Style, foreign, numbered, blob, lettered, listed, mapped, arrayed, describing, styleOf, member, clean, countIn, kindIn}
 use Rattle.standard.specs.Table.{most, Spot, ranged, letters, children, several, tree}
@@ -30,7 +30,7 @@ sizeIn c vs = length (written* (modeOf c) vs)
 -- the row, the text, the bytes and the marks behind values that begin at a place
 unfoldable pub totalFrom : Spot → Extent → Answer (Trees × List ℕ × List ℕ) → Sized
 totalFrom c o (got (vs, u, y)) = Fits (record { row = o .row + tall* vs; text = o .text + length (text* vs); size = o .size + sizeIn c vs; mark = o .mark + length (marks* vs) })
-totalFrom c o (refuse x (at p)) = Refused (record { number = x; place = p })
+totalFrom c o (refuse x p) = Refused (record { number = x; place = offset p })
 
 -- the marks of values stand in a buffer from m on, if it has room for them
 unfoldable pub Marked : (before : List ℕ) → (mark : ℕ) → (after : List ℕ) → Answer (Trees × List ℕ × List ℕ) → Type 0
@@ -39,7 +39,7 @@ Marked b m a (refuse x p) = Unit {0}
 
 -- so many values of a table, from a place on
 abbrev pub valuesAt : (words text : List ℕ) → (levels : ℕ) → Spot → (count : ℕ) → Extent → Answer (Trees × List ℕ × List ℕ)
-valuesAt w x l c n o = several (λ d k u y. tree l d k u y) c n (o .row) (drop (2 * (o .row)) w) (drop (o .text) x)
+valuesAt w x l c n o = several (λ d i j u y. tree l d i j u y) c n (o .row) (o .text) (drop (2 * (o .row)) w) (drop (o .text) x)
 
 -- r is what is behind so many values from o on, or their refusal, and their marks are put into a buffer
 abbrev pub Finds : (words text : List ℕ) → (levels : ℕ) → Spot → (count : ℕ) → Extent → (before after : List ℕ) → Sized → Type 0
@@ -106,12 +106,12 @@ other = Other
 
 -- a row in front of words that passes the checks, whatever its text, and has children
 abbrev pub Nest : (levels : ℕ) → Spot → (words : List ℕ) → (kind number : ℕ) → Type 0
-Nest l c w k n = ((i : ℕ) (x : List ℕ) → check l c i w x ≡ got (k, n)) × (0 < children (styleOf k) n)
+Nest l c w k n = ((i j : ℕ) (x : List ℕ) → check l c i j w x ≡ got (k, n)) × (0 < children (styleOf k) n)
 
 -- is an element one; if not, a good element has no children
 abbrev pub Nested : (levels : ℕ) → Spot → (words : List ℕ) → (kind number : ℕ) → Bool → Type 0
 Nested l c w k n true = Nest l c w k n
-Nested l c w k n false = (i : ℕ) (x : List ℕ) (k n : ℕ) → check l c i w x ≡ got (k, n) → T (member (styleOf k)) → children (styleOf k) n ≡ 0
+Nested l c w k n false = (i j : ℕ) (x : List ℕ) (k n : ℕ) → check l c i j w x ≡ got (k, n) → T (member (styleOf k)) → children (styleOf k) n ≡ 0
 
 -- A place in a table
 
@@ -129,7 +129,7 @@ beyond m o k n = past o (letters (styleOf k) n) (headSize m (styleOf k) k n 0 + 
 -- or its refusal
 abbrev pub passed : Extent → Answer (ℕ × ℕ) → Sized
 passed o (got (k, n)) = Fits (beyond values o k n)
-passed o (refuse x (at p)) = Refused (record { number = x; place = p })
+passed o (refuse x p) = Refused (record { number = x; place = offset p })
 
 -- at the first child of a row
 abbrev pub inside : Extent → (kind : ℕ) → Extent

@@ -18,10 +18,10 @@ pub enum IsArrayElement {
     OfKind(u64),
 }
 
-// A good row, or the number of its refusal.
+// A good row, or the number and the place of its refusal.
 pub enum Checked {
     Good(Style, u64, u64),
-    Bad(usize),
+    Bad(usize, usize),
 }
 
 fn is_allowed(spot: IsArrayElement, kind: u64) -> bool
@@ -69,33 +69,34 @@ pub(crate) fn check_row(
     spot: IsArrayElement,
 ) -> Checked
     requires { ⌜ (2 * row ≤ length (now words)) × (from ≤ length (now letters)) ⌝ }
-    ensures { λ r. ⌜ (checkedIs row r ≡ check levels (spotIs spot) row (drop (2 * row) (now (words .entry))) (drop from (now (letters .entry)))) × Styled r ⌝ }
+    ensures { λ r. ⌜ (checkedIs r ≡ check levels (spotIs spot) row from (drop (2 * row) (now (words .entry))) (drop from (now (letters .entry)))) × Styled r ⌝ }
 {
     let k = 2 * row;
     if words.len() - k < 2 {
-        return Checked::Bad(refusal::ROWS_AMISS);
+        return Checked::Bad(refusal::ROWS_AMISS, row);
     }
     let kind = words[k];
     let number = words[k + 1];
     let style = kind::style_of(kind);
     if !style.is_kind() {
-        return Checked::Bad(refusal::KIND_UNKNOWN);
+        return Checked::Bad(refusal::KIND_UNKNOWN, row);
     }
     if levels == 0 {
-        return Checked::Bad(refusal::TOO_DEEP);
+        return Checked::Bad(refusal::TOO_DEEP, row);
     }
     if !is_allowed(spot, kind) {
-        return Checked::Bad(refusal::ELEMENT_UNFIT);
+        return Checked::Bad(refusal::ELEMENT_UNFIT, row);
     }
     if !style.takes(kind, number) {
-        return Checked::Bad(outside(style, number));
+        return Checked::Bad(outside(style, number), row);
     }
     let count = style.letters(number) as usize;
     if letters.len() - from < count {
-        return Checked::Bad(refusal::TEXT_AMISS);
+        return Checked::Bad(refusal::TEXT_AMISS, row);
     }
-    if !text::is_clean(kind, letters, from, count) {
-        return Checked::Bad(refusal::TEXT_AMISS);
+    let good = text::good_length(kind, letters, from, count);
+    if good < count {
+        return Checked::Bad(refusal::TEXT_AMISS, from + good);
     }
     Checked::Good(style, kind, number)
 }

@@ -173,7 +173,7 @@ fn size_text(kind: u64, number: u64, letters: &[u8], from: usize) -> usize
     if letters.len() - from < count {
         return 0;
     }
-    if !text::is_clean(kind, letters, from, count) {
+    if text::good_length(kind, letters, from, count) < count {
         return 0;
     }
     if number < head::SHORT_END {
@@ -292,13 +292,10 @@ fn size_good(c: Extent, style: Style, kind: u64, number: u64) -> Sized
 // The row at `c`, whatever it is but one with children.
 fn size_row(words: &[u64], text: &[u8], levels: usize, c: Extent) -> Sized
     requires { ⌜ Within (now words) (now text) c × (takenOf levels (drop (2 * (c .row)) (now words)) (drop (c .text) (now text)) ≡ other) ⌝ }
-    ensures { λ r. ⌜ r ≡ passed c (check levels any (c .row) (drop (2 * (c .row)) (now (words .entry))) (drop (c .text) (now (text .entry)))) ⌝ }
+    ensures { λ r. ⌜ r ≡ passed c (check levels any (c .row) (c .text) (drop (2 * (c .row)) (now (words .entry))) (drop (c .text) (now (text .entry)))) ⌝ }
 {
     match row::check_row(words, text, c.row, c.text, levels, IsArrayElement::False) {
-        Checked::Bad(number) => Sized::Refused(Refusal {
-            number,
-            place: c.row,
-        }),
+        Checked::Bad(number, place) => Sized::Refused(Refusal { number, place }),
         Checked::Good(style, kind, number) => size_good(c, style, kind, number),
     }
 }
@@ -394,7 +391,7 @@ fn size_elements(
 // The element at `c`, by the checks of every row. A call of its own, as `size_children` is: what it takes of the stack is free again behind it.
 fn check_element(words: &[u64], text: &[u8], told: u64, levels: usize, c: Extent) -> Checked
     requires { ⌜ (2 * (c .row) ≤ length (now words)) × (c .text ≤ length (now text)) ⌝ }
-    ensures { λ r. ⌜ (checkedIs (c .row) r ≡ check levels (like told) (c .row) (drop (2 * (c .row)) (now (words .entry))) (drop (c .text) (now (text .entry)))) × Styled r ⌝ }
+    ensures { λ r. ⌜ (checkedIs r ≡ check levels (like told) (c .row) (c .text) (drop (2 * (c .row)) (now (words .entry))) (drop (c .text) (now (text .entry)))) × Styled r ⌝ }
 {
     // named, as in `size_children`
     let checked = row::check_row(
@@ -411,7 +408,7 @@ fn check_element(words: &[u64], text: &[u8], told: u64, levels: usize, c: Extent
 // The row at `c`, which is `Taken::Other`. A call of its own too.
 fn size_other(words: &[u64], text: &[u8], levels: usize, c: Extent) -> Sized
     requires { ⌜ Within (now words) (now text) c × (takenOf levels (drop (2 * (c .row)) (now words)) (drop (c .text) (now text)) ≡ other) ⌝ }
-    ensures { λ r. ⌜ r ≡ passed c (check levels any (c .row) (drop (2 * (c .row)) (now (words .entry))) (drop (c .text) (now (text .entry)))) ⌝ }
+    ensures { λ r. ⌜ r ≡ passed c (check levels any (c .row) (c .text) (drop (2 * (c .row)) (now (words .entry))) (drop (c .text) (now (text .entry)))) ⌝ }
 {
     // named, as in `size_children`
     let one = size_row(words, text, levels, c);
@@ -450,11 +447,8 @@ fn size_items(
             c = close(marks, c, told, nested_head(told), e.size, e);
         } else {
             match check_element(words, text, told, levels, c) {
-                Checked::Bad(number) => {
-                    return Sized::Refused(Refusal {
-                        number,
-                        place: c.row,
-                    });
+                Checked::Bad(number, place) => {
+                    return Sized::Refused(Refusal { number, place });
                 }
                 Checked::Good(style, _, number) => {
                     let letters = style.letters(number) as usize;

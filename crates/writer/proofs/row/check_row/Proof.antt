@@ -9,7 +9,7 @@ use lib.ListN.{length-drop, drop, getD}
 use Rattle.standard.specs.Kinds.{styleOf, isKind}
 use Rattle.standard.specs.Table.{allowed, ranged}
 use Rattle.writer.specs.InCode.{spotIs}
-use Rattle.writer.proofs.Checks.{not-true, not-false, row-words, check-missing, check-kind, check-deep, check-element, check-number, check-short, check-text, check-good, clean-part}
+use Rattle.writer.proofs.Checks.{not-true, not-false, row-words, check-missing, check-kind, check-deep, check-element, check-number, check-short, check-text, check-whole, good-part}
 use Rattle.writer.proofs.row.check_row.Statement.{statement}
 use Rattle.writer.proofs.row.check_row.Tie as tie
 
@@ -37,7 +37,7 @@ check-row-spec =
     (tie.spec
     (λ c. search needs)
     (λ c. search needs)
-    (λ c. (sym (check-missing _ _ _ _ _ (rw length-drop (omega arith))), tt))
+    (λ c. (sym (check-missing _ _ _ _ _ _ (rw length-drop (omega arith))), tt))
     (λ c. search needs)
     (λ c. search needs)
     (λ c. search needs)
@@ -45,16 +45,17 @@ check-row-spec =
     (λ c. search needs)
     (λ c κs. search needs)
     (λ c κs. search needs)
-    (λ c. (rw (words (c .before .before .before)) (sym (check-kind _ _ _ _ _ _ _ (rw (← c .before .before .style-of .ensures, ← c .before .is-kind .ensures) (not-true _ (c .if2 .taken))))), tt))
-    (λ c. (rw (words (c .before .before .before .before)) (sym (check-deep _ _ _ _ _ _ _ (known (c .before)) (c .if3 .taken))), tt))
+    (λ c. (rw (words (c .before .before .before)) (sym (check-kind _ _ _ _ _ _ _ _ (rw (← c .before .before .style-of .ensures, ← c .before .is-kind .ensures) (not-true _ (c .if2 .taken))))), tt))
+    (λ c. (rw (words (c .before .before .before .before)) (sym (check-deep _ _ _ _ _ _ _ _ (known (c .before)) (c .if3 .taken))), tt))
     (λ c κs. search needs)
-    (λ c. (rw (words (c .before .before .before .before .before .before)) (sym (check-element _ _ _ _ _ _ (known (c .before .before .before)) _ (omega (arith, c .before .before .if3 .left)) (rw (← c .before .is-allowed .ensures) (not-true _ (c .if4 .taken))))), tt))
+    (λ c. (rw (words (c .before .before .before .before .before .before)) (sym (check-element _ _ _ _ _ _ _ (known (c .before .before .before)) _ (omega (arith, c .before .before .if3 .left)) (rw (← c .before .is-allowed .ensures) (not-true _ (c .if4 .taken))))), tt))
     (λ c κs. search needs)
     (λ c κs. search needs)
-    (λ c. (rw (words (c .before .before .before .before .before .before .before .before .before), c .outside .ensures, c .before .before .before .before .before .before .before .before .style-of .ensures) (sym (check-number _ _ _ _ _ _ (known (c .before .before .before .before .before .before)) _ (omega (arith, c .before .before .before .before .before .if3 .left)) (fits (c .before .before .before)) (rw (← c .before .before .before .before .before .before .before .before .style-of .ensures, ← c .before .before .takes .ensures) (not-true _ (c .before .if5 .taken))))), tt))
+    (λ c. (rw (words (c .before .before .before .before .before .before .before .before .before), c .outside .ensures, c .before .before .before .before .before .before .before .before .style-of .ensures) (sym (check-number _ _ _ _ _ _ _ (known (c .before .before .before .before .before .before)) _ (omega (arith, c .before .before .before .before .before .if3 .left)) (fits (c .before .before .before)) (rw (← c .before .before .before .before .before .before .before .before .style-of .ensures, ← c .before .before .takes .ensures) (not-true _ (c .before .if5 .taken))))), tt))
     (λ c κs. search needs)
     (λ c. search needs)
-    (λ c. (rw (words (c .before .before .before .before .before .before .before .before .before .before)) (sym (check-short _ _ _ _ _ _ (known (c .before .before .before .before .before .before .before)) (fits (c .before .before .before .before)) (ranges (c .before .before)) _ (omega (arith, c .before .before .before .before .before .before .if3 .left)) (rw (length-drop, ← c .before .before .before .before .before .before .before .before .before .style-of .ensures, ← c .before .letters .ensures) (c .if6 .taken)))), tt))
+    (λ c. (rw (words (c .before .before .before .before .before .before .before .before .before .before)) (sym (check-short _ _ _ _ _ _ _ (known (c .before .before .before .before .before .before .before)) (fits (c .before .before .before .before)) (ranges (c .before .before)) _ (omega (arith, c .before .before .before .before .before .before .if3 .left)) (rw (length-drop, ← c .before .before .before .before .before .before .before .before .before .style-of .ensures, ← c .before .letters .ensures) (c .if6 .taken)))), tt))
     (λ c κs. search needs)
-    (λ c. (rw (words (c .before .before .before .before .before .before .before .before .before .before .before .before)) (sym (check-text _ _ _ _ _ _ (known (c .before .before .before .before .before .before .before .before .before)) (fits (c .before .before .before .before .before .before)) (ranges (c .before .before .before .before)) _ (omega (arith, c .before .before .before .before .before .before .before .before .if3 .left)) (rw (length-drop, ← c .before .before .before .before .before .before .before .before .before .before .before .style-of .ensures, ← c .before .before .before .letters .ensures) (c .before .before .if6 .left)) (clean-part _ _ _ _ _ _ _ (c .before .is-clean .ensures) (c .before .before .before .letters .ensures) (c .before .before .before .before .before .before .before .before .before .before .before .style-of .ensures) (not-true _ (c .if7 .taken))))), tt))
-    (λ c. (rw (words (c .before .before .before .before .before .before .before .before .before .before .before .before)) (sym (check-good _ _ _ _ _ _ (known (c .before .before .before .before .before .before .before .before .before)) (fits (c .before .before .before .before .before .before)) (ranges (c .before .before .before .before)) _ (omega (arith, c .before .before .before .before .before .before .before .before .if3 .left)) (rw (length-drop, ← c .before .before .before .before .before .before .before .before .before .before .before .style-of .ensures, ← c .before .before .before .letters .ensures) (c .before .before .if6 .left)) (clean-part _ _ _ _ _ _ _ (c .before .is-clean .ensures) (c .before .before .before .letters .ensures) (c .before .before .before .before .before .before .before .before .before .before .before .style-of .ensures) (not-false _ (c .if7 .left))))), c .before .before .before .before .before .before .before .before .before .before .before .style-of .ensures)))
+    (λ c. search needs)
+    (λ c. (rw (words (c .before .before .before .before .before .before .before .before .before .before .before .before)) (sym (check-text _ _ _ _ _ _ _ (known (c .before .before .before .before .before .before .before .before .before)) (fits (c .before .before .before .before .before .before)) (ranges (c .before .before .before .before)) _ (omega (arith, c .before .before .before .before .before .before .before .before .if3 .left)) (rw (length-drop, ← c .before .before .before .before .before .before .before .before .before .before .before .style-of .ensures, ← c .before .before .before .letters .ensures) (c .before .before .if6 .left)) _ (good-part _ _ _ _ _ _ (c .before .good-length .ensures) (c .before .before .before .letters .ensures) (c .before .before .before .before .before .before .before .before .before .before .before .style-of .ensures)) (rw (← c .before .before .before .before .before .before .before .before .before .before .before .style-of .ensures, ← c .before .before .before .letters .ensures) (c .if7 .taken)))), tt))
+    (λ c. (rw (words (c .before .before .before .before .before .before .before .before .before .before .before .before)) (sym (check-whole _ _ _ _ _ _ _ (known (c .before .before .before .before .before .before .before .before .before)) (fits (c .before .before .before .before .before .before)) (ranges (c .before .before .before .before)) _ (omega (arith, c .before .before .before .before .before .before .before .before .if3 .left)) (rw (length-drop, ← c .before .before .before .before .before .before .before .before .before .before .before .style-of .ensures, ← c .before .before .before .letters .ensures) (c .before .before .if6 .left)) _ (good-part _ _ _ _ _ _ (c .before .good-length .ensures) (c .before .before .before .letters .ensures) (c .before .before .before .before .before .before .before .before .before .before .before .style-of .ensures)) (rw (← c .before .before .before .before .before .before .before .before .before .before .before .style-of .ensures, ← c .before .before .before .letters .ensures) (c .if7 .left)))), c .before .before .before .before .before .before .before .before .before .before .before .style-of .ensures)))

@@ -115,12 +115,12 @@ nested t c = nest-told _ _ _ _ _ (rw (c .if1 .taken) at (c .before .is-nested .e
 
 nested-first : (t : ℕ) (c : size-items-lts.Then1 (items-claims t) (size-items-at t) size-items.Post size-items-Inv-loop size-items-μ-loop) →
     let a = c .before .before .before .before .before .before .before .args in let i = c .before .before .before .loop in Within (a .words .now) (a .text .now) (inside (i .c) (a .told)) × (0 < a .levels) × (0 < countBy (a .told) (getD (a .words .now) (2 * i .c .row + 1) 0))
-nested-first t c = nest-first (c .before .before .before .loop .inv) (c .before .before .loop-test .taken) _ _ (nested t c .0 _ _) (nested t c .1)
+nested-first t c = nest-first (c .before .before .before .loop .inv) (c .before .before .loop-test .taken) _ _ (nested t c .0 _ _ _) (nested t c .1)
 
 -- the kind that it tells, where it is an array
 nested-told : (t : ℕ) (c : size-items-lts.Then1 (items-claims t) (size-items-at t) size-items.Post size-items-Inv-loop size-items-μ-loop) →
     let a = c .before .before .before .before .before .before .before .args in let i = c .before .before .before .loop in a .told ≡ 0xf0 → T (member (styleOf (kindIn (getD (a .words .now) (2 * i .c .row + 1) 0))))
-nested-told t c e = rw e at (nest-sure (c .before .before .before .loop .inv) (c .before .before .loop-test .taken) _ _ (nested t c .0 _ _) (nested t c .1))
+nested-told t c e = rw e at (nest-sure (c .before .before .before .loop .inv) (c .before .before .loop-test .taken) _ _ (nested t c .0 _ _ _) (nested t c .1))
 
 -- what is found of its children
 nested-finds : (t : ℕ) (c : size-items-lts.Joined2 (items-claims t) (size-items-at t) size-items.Post size-items-Inv-loop size-items-μ-loop) →
@@ -131,7 +131,7 @@ nested-finds t c = ⊎-elim (λ w. rw (w .5, w .6, w .0 .taken) (w .2 .ensures, 
 -- and one without
 leaf : (t : ℕ) (c : size-items-lts.After-item-width (items-claims t) (size-items-at t) size-items.Post size-items-Inv-loop size-items-μ-loop) →
     let a = c .before .before .before .before .before .before .before .before .before .before .before .before .before .args in let i = c .before .before .before .before .before .before .before .before .before .loop in let u = c .before .letters .result in Comes (a .words .now) (a .text .now) (a .levels) (like (a .told)) (a .start) (a .count) (a .marks .now) (past (i .c) u (c .item-width .result + u)) (i .left - 1) (i .marks)
-leaf t c = element-on (c .before .before .before .before .before .before .before .before .before .loop .inv) (c .before .before .before .before .before .before .before .before .loop-test .taken) _ _ (sym (c .before .before .before .before .before .check-element .ensures .0) ∙ ap (checkedIs (c .before .before .before .before .before .before .before .before .before .loop .c .row)) (c .before .before .before .style .given .1)) (rw (c .before .before .before .before .before .before .if1 .left) at (c .before .before .before .before .before .before .before .is-nested .ensures)) _ (subst Styled (c .before .before .before .style .given .1) (c .before .before .before .before .before .check-element .ensures .1)) _ _ (c .before .letters .ensures) (c .item-width .ensures)
+leaf t c = element-on (c .before .before .before .before .before .before .before .before .before .loop .inv) (c .before .before .before .before .before .before .before .before .loop-test .taken) _ _ (sym (c .before .before .before .before .before .check-element .ensures .0) ∙ ap checkedIs (c .before .before .before .style .given .1)) (rw (c .before .before .before .before .before .before .if1 .left) at (c .before .before .before .before .before .before .before .is-nested .ensures)) _ (subst Styled (c .before .before .before .style .given .1) (c .before .before .before .before .before .check-element .ensures .1)) _ _ (c .before .letters .ensures) (c .item-width .ensures)
 
 -- A value with children of their own codes
 
@@ -141,7 +141,7 @@ opened t c = told-as _ _ _ _ (sym (c .before .before .take-row .ensures) ∙ c .
 
 opened-first : (t : ℕ) (c : size-values-lts.After-kind (values-claims t) (size-values-at t) size-values.Post size-values-Inv-loop size-values-μ-loop) →
     let a = c .before .before .before .before .before .before .before .before .args in let i = c .before .before .before .before .loop in let k = c .kind .given .0 in Within (a .words .now) (a .text .now) (inside (i .c) (k .0)) × (0 < a .levels) × (0 < k .1 .0)
-opened-first t c = rw (opened t c .1) at (nest-first (c .before .before .before .before .loop .inv) (c .before .before .before .loop-test .taken) _ _ (opened t c .0 .0 _ _) (opened t c .0 .1))
+opened-first t c = rw (opened t c .1) at (nest-first (c .before .before .before .before .loop .inv) (c .before .before .before .loop-test .taken) _ _ (opened t c .0 .0 _ _ _) (opened t c .0 .1))
 
 opened-finds : (t : ℕ) (c : size-values-lts.After-size-children (values-claims t) (size-values-at t) size-values.Post size-values-Inv-loop size-values-μ-loop) →
     let a = c .before .before .before .before .before .before .before .before .before .before .before .args in let i = c .before .before .before .before .before .before .before .loop in let k = c .before .before .before .kind .given .0 in Finds (a .words .now) (a .text .now) (a .levels - 1) (spotBy (k .0) (k .1 .0)) (countBy (k .0) (k .1 .0)) (inside (i .c) (k .0)) (i .marks) (c .size-children .last .1 .1 .1 .1 .1 .0) (c .size-children .result)
@@ -156,8 +156,8 @@ arrayed t c = told-as _ _ _ _ (sym (c .before .before .take-row .ensures) ∙ c 
 arrayed-first : (t : ℕ) (c : size-values-lts.After-told (values-claims t) (size-values-at t) size-values.Post size-values-Inv-loop size-values-μ-loop) →
     let a = c .before .before .before .before .before .before .before .before .args in let i = c .before .before .before .before .loop in let k = c .told .given .0 in Within (a .words .now) (a .text .now) (inside (i .c) 0xf0) × (0 < a .levels) × (0 < k .1 .0) × T (member (styleOf (k .0)))
 arrayed-first t c =
-    let g = nest-first (c .before .before .before .before .loop .inv) (c .before .before .before .loop-test .taken) _ _ (arrayed t c .1 .0 _ _) (arrayed t c .1 .1) in
-    (g .0, g .1, rw (← arrayed t c .3) (g .2), rw (← arrayed t c .2) (nest-sure (c .before .before .before .before .loop .inv) (c .before .before .before .loop-test .taken) _ _ (arrayed t c .1 .0 _ _) (arrayed t c .1 .1)))
+    let g = nest-first (c .before .before .before .before .loop .inv) (c .before .before .before .loop-test .taken) _ _ (arrayed t c .1 .0 _ _ _) (arrayed t c .1 .1) in
+    (g .0, g .1, rw (← arrayed t c .3) (g .2), rw (← arrayed t c .2) (nest-sure (c .before .before .before .before .loop .inv) (c .before .before .before .loop-test .taken) _ _ (arrayed t c .1 .0 _ _ _) (arrayed t c .1 .1)))
 
 arrayed-finds : (t : ℕ) (c : size-values-lts.After-size-elements (values-claims t) (size-values-at t) size-values.Post size-values-Inv-loop size-values-μ-loop) →
     let a = c .before .before .before .before .before .before .before .before .before .before .before .args in let i = c .before .before .before .before .before .before .before .loop in let n = arrayed t (c .before .before .before) .0 in Finds (a .words .now) (a .text .now) (a .levels - 1) (spotBy 0xf0 n) (countBy 0xf0 n) (inside (i .c) 0xf0) (i .marks) (c .size-elements .last .1 .1 .1 .1 .1 .0) (c .size-elements .result)
@@ -214,18 +214,18 @@ unfolding modeOf countIn kindIn
     (λ c. search needs)
     -- is refused with them
     (λ c. nested-finds t (c .before .before) .1 ∙ c .before .before .before .before .before .before .before .before .loop .inv .kept)
-    (λ c. rw (c .enum-told .given .1) (nest-no (c .before .before .before .before .before .before .before .before .loop .inv) (c .before .before .before .before .before .before .before .loop-test .taken) _ _ (nested t (c .before .before .before .before .before) .0 _ _) (nested t (c .before .before .before .before .before) .1) _ (nested-finds t (c .before .before) .1) _ (nested-finds t (c .before .before) .0) _ (c .enum-told .given .1)))
+    (λ c. rw (c .enum-told .given .1) (nest-no (c .before .before .before .before .before .before .before .before .loop .inv) (c .before .before .before .before .before .before .before .loop-test .taken) _ _ (nested t (c .before .before .before .before .before) .0 _ _ _) (nested t (c .before .before .before .before .before) .1) _ (nested-finds t (c .before .before) .1) _ (nested-finds t (c .before .before) .0) _ (c .enum-told .given .1)))
     -- or closed behind them
     (λ c κs. search needs)
-    (λ c κs. let s = nest-sums (c .before .before .before .before .before .before .before .before .before .before .before .loop .inv) (c .before .before .before .before .before .before .before .before .before .before .loop-test .taken) _ _ (nested t (c .before .before .before .before .before .before .before .before) .0 _ _) (nested t (c .before .before .before .before .before .before .before .before) .1) _ (nested-finds t (c .before .before .before .before .before) .1) _ (nested-finds t (c .before .before .before .before .before) .0) _ (c .before .before .before .below .given .1) _ (c .nested-head .ensures) (c .before .before .before .before .before .before .before .before .before .before .before .before .before .before .before .good .0 .1) (c .before .before .before .before .before .before .before .before .before .before .before .before .before .before .before .good .1 .0 .1) in (s .1, s .2))
+    (λ c κs. let s = nest-sums (c .before .before .before .before .before .before .before .before .before .before .before .loop .inv) (c .before .before .before .before .before .before .before .before .before .before .loop-test .taken) _ _ (nested t (c .before .before .before .before .before .before .before .before) .0 _ _ _) (nested t (c .before .before .before .before .before .before .before .before) .1) _ (nested-finds t (c .before .before .before .before .before) .1) _ (nested-finds t (c .before .before .before .before .before) .0) _ (c .before .before .before .below .given .1) _ (c .nested-head .ensures) (c .before .before .before .before .before .before .before .before .before .before .before .before .before .before .before .good .0 .1) (c .before .before .before .before .before .before .before .before .before .before .before .before .before .before .before .good .1 .0 .1) in (s .1, s .2))
     (λ c. omega (arith, c .before .before .before .before .before .before .before .before .before .before .before .before .before .loop-test .taken))
-    (λ c. rw (c .before .before .close .ensures .0) (nest-on (c .before .before .before .before .before .before .before .before .before .before .before .before .before .before .loop .inv) (c .before .before .before .before .before .before .before .before .before .before .before .before .before .loop-test .taken) _ _ (nested t (c .before .before .before .before .before .before .before .before .before .before .before) .0 _ _) (nested t (c .before .before .before .before .before .before .before .before .before .before .before) .1) _ (nested-finds t (c .before .before .before .before .before .before .before .before) .1) _ (nested-finds t (c .before .before .before .before .before .before .before .before) .0) _ (c .before .before .before .before .before .before .below .given .1) _ (c .before .before .before .nested-head .ensures) _ (c .before .before .close .ensures .1) (c .before .before .close .kept .0)))
+    (λ c. rw (c .before .before .close .ensures .0) (nest-on (c .before .before .before .before .before .before .before .before .before .before .before .before .before .before .loop .inv) (c .before .before .before .before .before .before .before .before .before .before .before .before .before .loop-test .taken) _ _ (nested t (c .before .before .before .before .before .before .before .before .before .before .before) .0 _ _ _) (nested t (c .before .before .before .before .before .before .before .before .before .before .before) .1) _ (nested-finds t (c .before .before .before .before .before .before .before .before) .1) _ (nested-finds t (c .before .before .before .before .before .before .before .before) .0) _ (c .before .before .before .before .before .before .below .given .1) _ (c .before .before .before .nested-head .ensures) _ (c .before .before .close .ensures .1) (c .before .before .close .kept .0)))
     -- any other element
     (λ c κs. (c .before .before .before .loop .inv .within .rows, c .before .before .before .loop .inv .within .letters))
     -- is refused
     (λ c. search needs)
     (λ c. c .before .before .before .before .before .before .before .loop .inv .kept)
-    (λ c. comes-no (c .before .before .before .before .before .before .before .loop .inv) (c .before .before .before .before .before .before .loop-test .taken) _ _ (sym (c .before .before .before .check-element .ensures .0) ∙ ap (checkedIs (c .before .before .before .before .before .before .before .loop .c .row)) (c .before .number .given .1)))
+    (λ c. comes-no (c .before .before .before .before .before .before .before .loop .inv) (c .before .before .before .before .before .before .loop-test .taken) _ _ (sym (c .before .before .before .check-element .ensures .0) ∙ ap checkedIs (c .before .number .given .1)))
     -- or passed
     (λ c. search needs)
     (λ c κs. search needs)
@@ -263,22 +263,22 @@ unfolding modeOf countIn kindIn
     (λ c. search needs)
     (λ c. search needs)
     (λ c. c .before .before .before .before .size-children .kept .1 .1 .1 .1 .1 .0 ∙ c .before .before .before .before .before .before .before .before .before .before .before .loop .inv .kept)
-    (λ c. rw (c .enum-told .given .1) (nest-no (c .before .before .before .before .before .before .before .before .before .before .before .loop .inv) (c .before .before .before .before .before .before .before .before .before .before .loop-test .taken) _ _ (opened t (c .before .before .before .before .before .before .before) .0 .0 _ _) (opened t (c .before .before .before .before .before .before .before) .0 .1) _ (c .before .before .before .before .size-children .kept .1 .1 .1 .1 .1 .0) _ (opened-finds t (c .before .before .before .before)) _ (c .enum-told .given .1)))
+    (λ c. rw (c .enum-told .given .1) (nest-no (c .before .before .before .before .before .before .before .before .before .before .before .loop .inv) (c .before .before .before .before .before .before .before .before .before .before .loop-test .taken) _ _ (opened t (c .before .before .before .before .before .before .before) .0 .0 _ _ _) (opened t (c .before .before .before .before .before .before .before) .0 .1) _ (c .before .before .before .before .size-children .kept .1 .1 .1 .1 .1 .0) _ (opened-finds t (c .before .before .before .before)) _ (c .enum-told .given .1)))
     (λ c κs. eqb-false _ 0xf0 (opened t (c .before .before .before .before .before .before .before .before .before) .1))
-    (λ c κs. let s = nest-sums (c .before .before .before .before .before .before .before .before .before .before .before .before .before .before .loop .inv) (c .before .before .before .before .before .before .before .before .before .before .before .before .before .loop-test .taken) _ _ (opened t (c .before .before .before .before .before .before .before .before .before .before) .0 .0 _ _) (opened t (c .before .before .before .before .before .before .before .before .before .before) .0 .1) _ (c .before .before .before .before .before .before .before .size-children .kept .1 .1 .1 .1 .1 .0) _ (opened-finds t (c .before .before .before .before .before .before .before)) _ (c .before .before .before .below .given .1) _ (c .open-head .ensures) (c .before .before .before .before .before .before .before .before .before .before .before .before .before .before .before .before .before .before .good .0 .1) (c .before .before .before .before .before .before .before .before .before .before .before .before .before .before .before .before .before .before .good .1 .0 .1) in (s .1, s .2))
+    (λ c κs. let s = nest-sums (c .before .before .before .before .before .before .before .before .before .before .before .before .before .before .loop .inv) (c .before .before .before .before .before .before .before .before .before .before .before .before .before .loop-test .taken) _ _ (opened t (c .before .before .before .before .before .before .before .before .before .before) .0 .0 _ _ _) (opened t (c .before .before .before .before .before .before .before .before .before .before) .0 .1) _ (c .before .before .before .before .before .before .before .size-children .kept .1 .1 .1 .1 .1 .0) _ (opened-finds t (c .before .before .before .before .before .before .before)) _ (c .before .before .before .below .given .1) _ (c .open-head .ensures) (c .before .before .before .before .before .before .before .before .before .before .before .before .before .before .before .before .before .before .good .0 .1) (c .before .before .before .before .before .before .before .before .before .before .before .before .before .before .before .before .before .before .good .1 .0 .1) in (s .1, s .2))
     (λ c. omega (arith, c .before .before .before .before .before .before .before .before .before .before .before .before .before .before .before .before .loop-test .taken))
-    (λ c. rw (c .before .before .close .ensures .0) (nest-on (c .before .before .before .before .before .before .before .before .before .before .before .before .before .before .before .before .before .loop .inv) (c .before .before .before .before .before .before .before .before .before .before .before .before .before .before .before .before .loop-test .taken) _ _ (opened t (c .before .before .before .before .before .before .before .before .before .before .before .before .before) .0 .0 _ _) (opened t (c .before .before .before .before .before .before .before .before .before .before .before .before .before) .0 .1) _ (c .before .before .before .before .before .before .before .before .before .before .size-children .kept .1 .1 .1 .1 .1 .0) _ (opened-finds t (c .before .before .before .before .before .before .before .before .before .before)) _ (c .before .before .before .before .before .before .below .given .1) _ (c .before .before .before .open-head .ensures) _ (c .before .before .close .ensures .1) (c .before .before .close .kept .0)))
+    (λ c. rw (c .before .before .close .ensures .0) (nest-on (c .before .before .before .before .before .before .before .before .before .before .before .before .before .before .before .before .before .loop .inv) (c .before .before .before .before .before .before .before .before .before .before .before .before .before .before .before .before .loop-test .taken) _ _ (opened t (c .before .before .before .before .before .before .before .before .before .before .before .before .before) .0 .0 _ _ _) (opened t (c .before .before .before .before .before .before .before .before .before .before .before .before .before) .0 .1) _ (c .before .before .before .before .before .before .before .before .before .before .size-children .kept .1 .1 .1 .1 .1 .0) _ (opened-finds t (c .before .before .before .before .before .before .before .before .before .before)) _ (c .before .before .before .before .before .before .below .given .1) _ (c .before .before .before .open-head .ensures) _ (c .before .before .close .ensures .1) (c .before .before .close .kept .0)))
     -- an array
     (λ c. search needs)
     (λ c κs. (omega (arith, c .before .before .before .before .before .before .before .before .before .before .pre .0), arrayed-first t (c .before .before)))
     (λ c. search needs)
     (λ c. search needs)
     (λ c. c .before .before .before .before .size-elements .kept .1 .1 .1 .1 .1 .0 ∙ c .before .before .before .before .before .before .before .before .before .before .before .loop .inv .kept)
-    (λ c. rw (c .enum-told2 .given .1) (nest-no (c .before .before .before .before .before .before .before .before .before .before .before .loop .inv) (c .before .before .before .before .before .before .before .before .before .before .loop-test .taken) _ _ (arrayed t (c .before .before .before .before .before .before .before) .1 .0 _ _) (arrayed t (c .before .before .before .before .before .before .before) .1 .1) _ (c .before .before .before .before .size-elements .kept .1 .1 .1 .1 .1 .0) _ (arrayed-finds t (c .before .before .before .before)) _ (c .enum-told2 .given .1)))
-    (λ c κs. let s = nest-sums (c .before .before .before .before .before .before .before .before .before .before .before .before .before .loop .inv) (c .before .before .before .before .before .before .before .before .before .before .before .before .loop-test .taken) _ _ (arrayed t (c .before .before .before .before .before .before .before .before .before) .1 .0 _ _) (arrayed t (c .before .before .before .before .before .before .before .before .before) .1 .1) _ (c .before .before .before .before .before .before .size-elements .kept .1 .1 .1 .1 .1 .0) _ (arrayed-finds t (c .before .before .before .before .before .before)) _ (c .before .before .below2 .given .1) _ refl (c .before .before .before .before .before .before .before .before .before .before .before .before .before .before .before .before .before .good .0 .1) (c .before .before .before .before .before .before .before .before .before .before .before .before .before .before .before .before .before .good .1 .0 .1) in s .0)
-    (λ c κs. let s = nest-sums (c .before .before .before .before .before .before .before .before .before .before .before .before .before .before .loop .inv) (c .before .before .before .before .before .before .before .before .before .before .before .before .before .loop-test .taken) _ _ (arrayed t (c .before .before .before .before .before .before .before .before .before .before) .1 .0 _ _) (arrayed t (c .before .before .before .before .before .before .before .before .before .before) .1 .1) _ (c .before .before .before .before .before .before .before .size-elements .kept .1 .1 .1 .1 .1 .0) _ (arrayed-finds t (c .before .before .before .before .before .before .before)) _ (c .before .before .before .below2 .given .1) _ (c .array-width .ensures) (c .before .before .before .before .before .before .before .before .before .before .before .before .before .before .before .before .before .before .good .0 .1) (c .before .before .before .before .before .before .before .before .before .before .before .before .before .before .before .before .before .before .good .1 .0 .1) in (s .1, s .2))
+    (λ c. rw (c .enum-told2 .given .1) (nest-no (c .before .before .before .before .before .before .before .before .before .before .before .loop .inv) (c .before .before .before .before .before .before .before .before .before .before .loop-test .taken) _ _ (arrayed t (c .before .before .before .before .before .before .before) .1 .0 _ _ _) (arrayed t (c .before .before .before .before .before .before .before) .1 .1) _ (c .before .before .before .before .size-elements .kept .1 .1 .1 .1 .1 .0) _ (arrayed-finds t (c .before .before .before .before)) _ (c .enum-told2 .given .1)))
+    (λ c κs. let s = nest-sums (c .before .before .before .before .before .before .before .before .before .before .before .before .before .loop .inv) (c .before .before .before .before .before .before .before .before .before .before .before .before .loop-test .taken) _ _ (arrayed t (c .before .before .before .before .before .before .before .before .before) .1 .0 _ _ _) (arrayed t (c .before .before .before .before .before .before .before .before .before) .1 .1) _ (c .before .before .before .before .before .before .size-elements .kept .1 .1 .1 .1 .1 .0) _ (arrayed-finds t (c .before .before .before .before .before .before)) _ (c .before .before .below2 .given .1) _ refl (c .before .before .before .before .before .before .before .before .before .before .before .before .before .before .before .before .before .good .0 .1) (c .before .before .before .before .before .before .before .before .before .before .before .before .before .before .before .before .before .good .1 .0 .1) in s .0)
+    (λ c κs. let s = nest-sums (c .before .before .before .before .before .before .before .before .before .before .before .before .before .before .loop .inv) (c .before .before .before .before .before .before .before .before .before .before .before .before .before .loop-test .taken) _ _ (arrayed t (c .before .before .before .before .before .before .before .before .before .before) .1 .0 _ _ _) (arrayed t (c .before .before .before .before .before .before .before .before .before .before) .1 .1) _ (c .before .before .before .before .before .before .before .size-elements .kept .1 .1 .1 .1 .1 .0) _ (arrayed-finds t (c .before .before .before .before .before .before .before)) _ (c .before .before .before .below2 .given .1) _ (c .array-width .ensures) (c .before .before .before .before .before .before .before .before .before .before .before .before .before .before .before .before .before .before .good .0 .1) (c .before .before .before .before .before .before .before .before .before .before .before .before .before .before .before .before .before .before .good .1 .0 .1) in (s .1, s .2))
     (λ c. omega (arith, c .before .before .before .before .before .before .before .before .before .before .before .before .before .before .before .before .loop-test .taken))
-    (λ c. rw (c .before .before .close2 .ensures .0) (nest-on (c .before .before .before .before .before .before .before .before .before .before .before .before .before .before .before .before .before .loop .inv) (c .before .before .before .before .before .before .before .before .before .before .before .before .before .before .before .before .loop-test .taken) _ _ (arrayed t (c .before .before .before .before .before .before .before .before .before .before .before .before .before) .1 .0 _ _) (arrayed t (c .before .before .before .before .before .before .before .before .before .before .before .before .before) .1 .1) _ (c .before .before .before .before .before .before .before .before .before .before .size-elements .kept .1 .1 .1 .1 .1 .0) _ (arrayed-finds t (c .before .before .before .before .before .before .before .before .before .before)) _ (c .before .before .before .before .before .before .below2 .given .1) _ (c .before .before .before .array-width .ensures) _ (c .before .before .close2 .ensures .1) (c .before .before .close2 .kept .0)))
+    (λ c. rw (c .before .before .close2 .ensures .0) (nest-on (c .before .before .before .before .before .before .before .before .before .before .before .before .before .before .before .before .before .loop .inv) (c .before .before .before .before .before .before .before .before .before .before .before .before .before .before .before .before .loop-test .taken) _ _ (arrayed t (c .before .before .before .before .before .before .before .before .before .before .before .before .before) .1 .0 _ _ _) (arrayed t (c .before .before .before .before .before .before .before .before .before .before .before .before .before) .1 .1) _ (c .before .before .before .before .before .before .before .before .before .before .size-elements .kept .1 .1 .1 .1 .1 .0) _ (arrayed-finds t (c .before .before .before .before .before .before .before .before .before .before)) _ (c .before .before .before .before .before .before .below2 .given .1) _ (c .before .before .before .array-width .ensures) _ (c .before .before .close2 .ensures .1) (c .before .before .close2 .kept .0)))
     -- another row
     (λ c. search needs)
     (λ c κs. (c .before .before .before .before .loop .inv .within, sym (c .before .before .take-row .ensures) ∙ c .enum-told3 .given .1))

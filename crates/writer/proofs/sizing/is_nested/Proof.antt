@@ -25,9 +25,9 @@ is-nested-spec =
     (tie.spec
     (λ c. element-low _ _ _ (c .if1 .taken))
     (λ c. search needs)
-    (λ c. λ i x k n q t. absurd (omega (arith, good _ _ _ _ _ _ _ q .level, c .if2 .taken)))
+    (λ c. λ i o x k n q t. absurd (omega (arith, good _ _ _ _ _ _ _ _ q .level, c .if2 .taken)))
     (λ c. search needs)
-    (λ c. λ i x k n q t. absurd (omega (arith, ap length (good _ _ _ _ _ _ _ q .words), c .if3 .taken, length-drop (2 * c .before .before .before .before .args .row) (c .before .before .before .before .args .words .now))))
+    (λ c. λ i o x k n q t. absurd (omega (arith, ap length (good _ _ _ _ _ _ _ _ q .words), c .if3 .taken, length-drop (2 * c .before .before .before .before .args .row) (c .before .before .before .before .args .words .now))))
     (λ c. search needs)
     (λ c. search needs)
     (λ c. rw (words (c .before .before)) (element-unlike _ _ _ _ _ (c .if4 .taken)))

@@ -1,9 +1,7 @@
 -- `size_text` makes the checks of a text in the order of the definition.
-use mathlib.Core.Path.{sym, _∙_}
 use borrow.Author.Needs.{needs}
 use borrow.Author.Tests.{lt-ltb, le-ltb}
 use lib.ListN.{length-drop}
-use Rattle.writer.proofs.Checks.{not-true, not-false}
 use Rattle.writer.proofs.Sizes.{text-long, text-short, text-bad, text-good}
 use Rattle.writer.proofs.sizing.size_text.Statement.{statement}
 use Rattle.writer.proofs.sizing.size_text.Tie as tie
@@ -16,8 +14,8 @@ size-text-spec =
     (λ c. search needs)
     (λ c. text-short _ _ _ (rw length-drop (c .if2 .taken)))
     (λ c κs. search needs)
-    (λ c. text-bad _ _ _ (sym (c .before .is-clean .ensures) ∙ not-true _ (c .if3 .taken)))
+    (λ c. text-bad _ _ _ (rw length-drop (c .before .before .if2 .left)) _ (c .before .good-length .ensures) (c .if3 .taken))
     (λ c. search needs)
-    (λ c. text-good _ _ _ (c .before .before .before .before .if1 .left) (rw length-drop (c .before .before .before .if2 .left)) (sym (c .before .before .is-clean .ensures) ∙ not-false _ (c .before .if3 .left)) 2 (rw (lt-ltb _ _ (c .if4 .taken))))
+    (λ c. text-good _ _ _ (c .before .before .before .before .if1 .left) (rw length-drop (c .before .before .before .if2 .left)) _ (c .before .before .good-length .ensures) (c .before .if3 .left) 2 (rw (lt-ltb _ _ (c .if4 .taken))))
     (λ c. search needs)
-    (λ c. text-good _ _ _ (c .before .before .before .before .if1 .left) (rw length-drop (c .before .before .before .if2 .left)) (sym (c .before .before .is-clean .ensures) ∙ not-false _ (c .before .if3 .left)) 5 (rw (le-ltb _ _ (c .if4 .left)))))
+    (λ c. text-good _ _ _ (c .before .before .before .before .if1 .left) (rw length-drop (c .before .before .before .if2 .left)) _ (c .before .before .good-length .ensures) (c .before .if3 .left) 5 (rw (le-ltb _ _ (c .if4 .left)))))
