@@ -6,7 +6,7 @@ use mathlib.Core.Bool.{Bool, true, false, not}
 use native.Mathlib.Omega.{arith}
 use lib.Dec.{T}
 use lib.ListN.{drop}
-use Rattle.standard.specs.Answer.{Answer, got, refuse, Place, at, limitOutside}
+use Rattle.standard.specs.Answer.{Answer, got, refuse, Place, limitOutside}
 use Rattle.standard.specs.Outcomes as outcome
 use Rattle.standard.specs.Outcomes.{inForce, Step, end, part, refused, stepped, stepIn, measure}
 use Rattle.standard.specs.Facts.{if-case}
@@ -37,10 +37,10 @@ zero-success code f g (got a) h t r e = (λ z. (a, refl), λ s. sym e ∙ f a)
 zero-success code f g {xs = xs} (refuse x p) (refusal′ h) t r e = (λ z. absurd (not-zero xs x h t (sym (g x p) ∙ e ∙ z)), λ s. let q = s .1 in cc)
 
 sizing-number : (x : ℕ) (p : Place) → sizing (refuse x p) .code ≡ x
-sizing-number x (at p) = refl
+sizing-number x p = refl
 
 measuring-number : (x : ℕ) (p : Place) → measuring (refuse x p) .code ≡ x
-measuring-number x (at p) = refl
+measuring-number x p = refl
 
 sizing-success : {xs : List ℕ} (m : Answer ℕ) → Within xs m → T (not (among xs 0)) → (o : Sizing) → sizing m ≡ o → Same (o .code ≡ 0) (Success m)
 sizing-success m h t o e = zero-success (λ k. sizing k .code) (λ a. refl) sizing-number m h t (o .code) (ap (λ (z : Sizing). z .code) e)
@@ -73,17 +73,17 @@ told = limitOutside ∷ ofMeasure
 done-told : (s : Step) → StepRange told s → Same ((sizing (lengthIn s) .code ≡ 0) × (sizing (lengthIn s) .length ≡ 0)) (s ≡ end)
 done-told end h = (λ t. refl, λ e. (refl, refl))
 done-told (part i n) h = (λ t. absurd (omega (arith, t .1)), λ e. (refl, cc))
-done-told (refused x (at p)) h = (λ t. absurd (not-zero told x h tt (t .0)), λ e. (cc, refl))
+done-told (refused x p) h = (λ t. absurd (not-zero told x h tt (t .0)), λ e. (cc, refl))
 
 value-told : (s : Step) → StepRange told s → Same ((sizing (lengthIn s) .code ≡ 0) × (1 ≤ sizing (lengthIn s) .length)) (Finds s)
 value-told end h = (λ t. absurd (omega (arith, t .1)), λ f. let q = f .2 in let z : _≡_ {A = ℕ} 0 1 = cc in absurd (omega arith))
 value-told (part i n) h = (λ t. (i, n, refl), λ f. (refl, h))
-value-told (refused x (at p)) h = (λ t. absurd (omega (arith, t .1)), λ f. let q = f .2 in let z : _≡_ {A = ℕ} 0 1 = cc in absurd (omega arith))
+value-told (refused x p) h = (λ t. absurd (omega (arith, t .1)), λ f. let q = f .2 in let z : _≡_ {A = ℕ} 0 1 = cc in absurd (omega arith))
 
 moved-by : (i : ℕ) (m : Answer outcome.Extent) → stepped i m .at ≡ i + sizing (lengthIn (stepped i m .answer)) .length
 unfolding stepped
 moved-by i (got e) = refl
-moved-by i (refuse x (at p)) = omega arith
+moved-by i (refuse x p) = omega arith
 
 moved-in : (l i : ℕ) (s : List ℕ) → stepIn l i s .at ≡ i + sizing (lengthIn (stepIn l i s .answer)) .length
 unfolding stepIn

@@ -2,7 +2,7 @@
 -- lent buffer. All of it is a function of the outcome (standard/specs/Outcomes.antt).
 use Prim.Native.Nat.{ℕ}
 use mathlib.Core.List.{List}
-use Rattle.standard.specs.Answer.{Answer, got, refuse, at}
+use Rattle.standard.specs.Answer.{Answer, got, refuse, offset}
 use Rattle.standard.specs.Outcomes as outcome
 
 -- afsungar_size
@@ -15,7 +15,7 @@ pub record Sizing : Type 0 where
 
 abbrev pub sizing : Answer ℕ → Sizing
 sizing (got n) = record { code = 0; place = 0; length = n }
-sizing (refuse x (at p)) = record { code = x; place = p; length = 0 }
+sizing (refuse x p) = record { code = x; place = offset p; length = 0 }
 
 -- afsungar_write
 
@@ -37,7 +37,7 @@ pub record Measuring : Type 0 where
 
 abbrev pub measuring : Answer outcome.Extent → Measuring
 measuring (got e) = record { code = 0; place = 0; length = e .length; rows = e .rows; text = e .text }
-measuring (refuse x (at p)) = record { code = x; place = p; length = 0; rows = 0; text = 0 }
+measuring (refuse x p) = record { code = x; place = offset p; length = 0; rows = 0; text = 0 }
 
 -- afsungar_read
 

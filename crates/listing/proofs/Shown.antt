@@ -7,7 +7,7 @@ use borrow.Author.Tests.{le-leb, lt-leb}
 use lib.Dec.{leb, leb→le}
 use lib.ListN.{length, take, drop, length-append}
 use lib.Seq.{take-at}
-use Rattle.standard.specs.Answer.{Answer, got, refuse, Place, at}
+use Rattle.standard.specs.Answer.{Answer, got, refuse, Place, at, offset}
 use Rattle.standard.specs.Tree.{Tree, tall, rows, text}
 use Rattle.standard.specs.Outcomes.{over, Extent, extent, arrived, readInto, read}
 use Rattle.standard.specs.Listing.{newline, largeWords, lines, shown, inputMost, listing}
@@ -39,7 +39,7 @@ listing-short l b = if-case (λ s. length s ≤ outputMost) (leb (length b) inpu
   where
     go : length b ≤ inputMost → (f : Answer (Tree × List ℕ)) → arrived l b ≡ f → length (shown (length b) f) ≤ outputMost
     go h (got (v, z)) e = simp length-append (omega (arith, value-of l b v z e .height, lines-short 0 (rows v), rows-length v, decimal-short 20 (length b - length z)))
-    go h (refuse x (at p)) e = simp length-append (omega (arith, decimal-short 20 x, decimal-short 20 p))
+    go h (refuse x p) e = simp length-append (omega (arith, decimal-short 20 x, decimal-short 20 (offset p)))
 
 -- what was read of an input, and what its listing is by that
 pub record Listed (levels : ℕ) (input words : List ℕ) (size rows : ℕ) : Type 0 where
@@ -85,11 +85,11 @@ module _ (l : ℕ) (b : List ℕ) {w x o : List ℕ} (few : length b ≤ inputMo
           let q : _≡_ {A = Answer Extent} (refuse n (at p)) (got (extent v (length b - length z))) = a ∙ ap (λ r. r .answer) (read-value v z i) in
           let z : _≡_ {A = ℕ} 0 1 = cc in
           absurd (omega arith)
-      go (refuse m (at k)) i =
-          let q : _≡_ {A = Answer Extent} (refuse n (at p)) (refuse m (at k)) = a ∙ ap (λ r. r .answer) (read-refusal m (at k) i) in
+      go (refuse m k) i =
+          let q : _≡_ {A = Answer Extent} (refuse n (at p)) (refuse m k) = a ∙ ap (λ r. r .answer) (read-refusal m k i) in
           let j : n ≡ m = cc in
-          let o : p ≡ k = cc in
-          rw (le-leb (length b) inputMost few, i, j, o)
+          let o : at p ≡ k = cc in
+          rw (le-leb (length b) inputMost few, i, j, ← o)
 
 pub too-large : (l : ℕ) (b : List ℕ) → inputMost < length b → listing l b ≡ largeWords ++ (newline ∷ [])
 unfolding listing
