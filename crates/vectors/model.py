@@ -48,14 +48,15 @@ def sequence(text, at):
     return 0
 
 
-def is_utf8(text):
+def utf8_fault(text):
+    """The first byte at which, after correct sequences, none begins; None where all are correct."""
     at = 0
     while at < len(text):
         step = sequence(text, at)
         if step == 0:
-            return False
+            return at
         at += step
-    return True
+    return None
 
 
 def told(number):
@@ -79,11 +80,11 @@ def number_allowed(kind, number):
     return number <= MOST and (kind != MAP or number % 2 == 0)
 
 
-def text_allowed(kind, text):
-    """2.4."""
+def fault(kind, text):
+    """2.4: the first fault of a row's text, counted from its start (4.6), or None."""
     if kind == STRING:
-        return is_utf8(text)
-    return kind != SYMBOL or all(b < 0x80 for b in text)
+        return utf8_fault(text)
+    return next((at for at, b in enumerate(text) if b >= 0x80), None) if kind == SYMBOL else None
 
 
 class Table:
@@ -110,8 +111,11 @@ class Table:
             raise Refused(5, place)
         length = 16 if kind in BLOBS else number if kind in TEXTS else 0
         text = self.text[self.used:self.used + length]
-        if len(text) < length or not text_allowed(kind, text):
+        if len(text) < length:
             raise Refused(6, place)
+        bad = fault(kind, text)
+        if bad is not None:
+            raise Refused(6, self.used + bad)
         self.row, self.used = place + 1, self.used + length
         return kind, number, text
 

@@ -9,7 +9,7 @@ import sys
 
 sys.dont_write_bytecode = True
 from form import bytes_field, bytes_of, cases_in, refusal_field, words_field
-from model import NOT_TOLD, Refused, TOLD, check_limit, number_allowed, text_allowed
+from model import NOT_TOLD, Refused, TOLD, check_limit, fault, number_allowed
 
 # 4.1: code, kind, layout and its number
 CODES = {
@@ -70,8 +70,9 @@ class Input:
         number = int.from_bytes(field, 'big')
         if layout == 'sized':
             text = self.cut(place, at + width, end, number)
-            if not text_allowed(kind, text):
-                raise Refused(11, place)
+            bad = fault(kind, text)
+            if bad is not None:
+                raise Refused(11, at + width + bad)
             return Value([(kind, number)], text, at + width + number)
         if kind in (0x56, 0x73) and not number_allowed(kind, number):
             raise Refused(11, place)
@@ -99,7 +100,7 @@ class Input:
 
     def array(self, width, kind, place, at, end, level):
         """The row tells the kind of the element code, whichever of its forms the code is. All that an array holds, however deep, is refused at its
-        place, or at that of the outermost array around it."""
+        place, or at that of the outermost array around it; but for a bad text, whose place is its own byte everywhere."""
         count, first, last = self.fields(width, place, at, end)
         if count and level == self.limit:
             raise Refused(3, place)
