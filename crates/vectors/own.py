@@ -9,7 +9,7 @@ import sys
 
 sys.dont_write_bytecode = True
 from form import bytes_field, bytes_of, store, words_field, words_of
-from model import BLOBS, COMPOUNDS, ELEMENTS, KINDS, LEVELS, MOST, NULL, Refused, TEXTS, TOLD, WIDTHS, encode, write
+from model import BLOBS, COMPOUNDS, ELEMENTS, KINDS, LEVELS, MOST, NULL, Refused, SEQUENCES as FORMS, TEXTS, TOLD, WIDTHS, encode, write
 
 REFUSED_ROOM = 16       # bytes of output for a table that is refused
 EDGES = sorted(n + d for n in (1, 2 ** 7, 2 ** 8, 2 ** 15, 2 ** 16, 2 ** 31, 2 ** 32, 2 ** 63) for d in (-1, 0)) + [2 ** 64 - 1]
@@ -621,6 +621,141 @@ def big_limits():
             yield case(chains(*links, 257), limit=limit)
 
 
+def spoiled():
+    """For each row of the table of 4.6 sequences that are cut off, and such as have a wrong byte in each place behind the first; then bytes that begin none."""
+    for first, last, low, high, length in FORMS[1:]:
+        for at in range(1, length):
+            yield bytes([last, high, 0xbf][:at])
+            for byte in (low - 1, high + 1) if at == 1 else (0x7f, 0xc0):
+                yield bytes([first, low, 0x80][:at] + [byte] + [0x80] * (length - at - 1))
+    yield from map(bytes.fromhex, ['80', 'bf', '8080', 'c080', 'c1bf', *[f'{first:02x}808080' for first in range(0xf5, 0x100)]])
+
+
+SPOILED = list(spoiled())
+# What may stand before a fault: nothing, sequences of each length, and as many bytes as are checked at once, more and fewer.
+BEFORE = [b'', b'a', 'Ø'.encode(), '€'.encode(), '\U0001f600'.encode(), 'aØ€\U0001f600'.encode(), b'a' * 15 + 'Ø'.encode(), b'a' * 16, b'a' * 32 + '€'.encode()]
+LENGTHS = (1, 15, 16, 17, 31, 32, 33, 100, 254, 255, 256, 300)
+FEW = [bytes.fromhex(text) for text in ('80', 'c328', 'e28241', 'f09f98')]
+UUID = bytes(range(0xf0, 0x100))
+
+
+def fault_bytes():
+    """Each of them alone, with good text behind it, and behind good text."""
+    for i, bad in enumerate(SPOILED):
+        before = BEFORE[i % len(BEFORE)]
+        for text in (bad, before + bad + b'z'):
+            yield case(f'b1:{len(text)}', text)
+        # what is wrong in a string is not in the binary before it; an array's string is held to the same
+        yield case(f'd0:2,b0:{len(bad)},f0.b1:2,b1:{len(before)},b1:{len(bad)}', bad + before + bad)
+
+
+def fault_places():
+    """The same faults behind more and more bytes, and good sequences of each length; the first, a middle and the last byte."""
+    for bad in FEW:
+        for before in [b'a' * length for length in LENGTHS] + [letter.encode() * times for letter in 'Ø€\U0001f600' for times in (1, 5, 20)]:
+            yield case(f'b1:{len(before + bad)}', before + bad)
+    for length in LENGTHS:
+        for text in (b's' * length + b'\x80', b's' * length + b'\xc3\x98' + b's' * 20):
+            yield case(f'b3:{len(text)}', text)
+    for at in (0, 20, 39):
+        for byte in (b'\x80', b'\xc3', b'\xff'):
+            text = b't' * at + byte + b't' * (39 - at)
+            yield from (case(f'{kind}:40', text) for kind in ('b0', 'b1', 'b3'))
+            yield case('d0:2,b1:40,b3:40', text.replace(byte, b't') + text)
+
+
+def fault_before():
+    """All bytes of the rows before count: those of every kind of row that has text, empty ones too; rows without text count for nothing."""
+    behind = [('98:0', UUID), ('94:0', UUID), ('b0:3', b'\xff\x80a'), ('b1:2', 'Ø'.encode()), ('b3:2', b'sy'), ('b1:0', b''), ('b0:0', b''), ('40:0', b'')]
+    for (row, text), (other, more) in zip(behind, behind[1:] + behind[:1]):
+        for kind, bad in (('b1', b'a\xe2\x82'), ('b3', b'a\x80')):
+            last = f'{kind}:{len(bad)}'
+            yield case(f'd0:2,{row},{last}', text + bad)
+            yield case(f'd0:4,{row},{other},{last},40:0', text + more + bad)
+            yield case(f'd1:4,{row},{last},{other},{last}', text + b'abc'[:len(bad)] + more + bad)
+    yield case('f0.98:2,98:0*2', UUID * 2)
+    yield case('d0:4,f0.98:2,98:0*2,f0.94:1,94:0,b1:0,f0.b1:2,b1:1*2', UUID * 3 + b'a\xbf')
+    yield case('d0:9,b1:0*8,b1:1', b'\x80')
+    yield case('d0:9,b1:1*8,b1:1', b'a' * 8 + b'\x80')
+
+
+def fault_split():
+    """A sequence over two rows: of two strings it is the first that is bad, at the sequence's first byte."""
+    for letter in 'Ø€\U0001f600':
+        text = letter.encode()
+        for at in range(1, len(text)):
+            one, other = at + 1, len(text) - at
+            for rows in (f'd0:2,b1:{one},b1:{other}', f'd0:2,b0:{one},b1:{other}', f'd0:2,b3:{one},b1:{other}', f'd0:2,b1:{one},b0:{other}',
+                         f'f0.b1:2,b1:{one},b1:{other}', f'd0:3,b1:1,b1:{at},b1:{other}'):
+                yield case(rows, b'a' + text)
+
+
+def fault_short():
+    """Too short comes before bad and has the row as its place; bad before what is too short, or left, behind it."""
+    for rows, text in [('b1:3', b'\xff'), ('b1:3', b'a\xff'), ('b3:3', b's\x80'), ('b1:2', b'\xe2'), ('d0:2,b1:1,b1:3', b'a\xff'), ('d0:2,b1:1,b1:3', b'\xffab'),
+                       ('d0:2,b1:3,b1:3', b'aa\xffab'), ('d0:2,b1:3,98:0', b'aa\xffab'), ('d0:2,b3:3,b0:9', b'aa\xffab'), ('d0:3,b1:0,b1:0,b1:2', b'\xff'),
+                       ('f0.b1:3,b1:1*2,b1:4', b'ab\xff'), ('f0.b1:3,b1:1,b1:2,b1:4', b'aa\xff'), ('f0.d0:1,d0:2,b1:4,b1:9', b'aaa\xc3\x98'),
+                       ('b1:3', b'aa\xffab'), ('b1:3', b'aab\xff'), ('d0:2,b1:3,40:0', b'aa\xff\xff'), ('d0:2,b1:3,b1:0', b'aab\xff'), ('d0:1,b3:0', b'\xff')]:
+        yield case(rows, text)
+        yield case(rows, text, 0)
+
+
+# Where a text may stand, behind four bytes of text: `@` is its row. They have up to six levels.
+SPOTS = ['d0:2,b0:4,@', 'd0:3,b0:4,@,40:0', 'd1:2,b3:4,@', 'd1:4,b3:4,40:0,@,40:0', '00:2,b0:4,@', 'd0:2,b0:4,00:2,@,40:0', 'd0:2,b0:4,00:2,80:1,@', 'd0:2,b0:4,f0.@:1,@',
+         'd0:3,40:0,b0:4,f0.@:1,@', 'f0.@:2,@4,@', 'f0.@:4,@4,@0,@0,@', 'f0.f0:2,f0.@:1,@4,f0.@:1,@', 'f0.f0:1,f0.@:2,@4,@', 'f0.d0:1,d0:2,@4,@', 'f0.d0:2,d0:1,@4,d0:1,@',
+         'f0.d1:1,d1:2,@4,@', 'f0.d1:2,d1:2,@4,40:0,d1:2,@,40:0', 'f0.f0:1,f0.d0:1,d0:2,@4,@', 'f0.d0:1,d0:2,@4,00:2,40:0,@', 'f0.d0:1,d0:2,@4,f0.d1:1,d1:2,40:0,@']
+
+
+def placed(spot, kind, length):
+    """The rows of a spot, with a text of that kind and length."""
+    return re.sub(r'@(\d?)', lambda found: f'{kind}:{found[1] or length}', spot.replace('.@', f'.{kind}'))
+
+
+def fault_spots():
+    for i, spot in enumerate(SPOTS):
+        for kind, bad in (('b1', b'\xc3'), ('b1', b'ab\xf0\x90\x80'), ('b3', b'abc\x80d')):
+            text = b'good' + bad
+            yield case(placed(spot, kind, len(bad)), text, limit=(LEVELS, 16)[i % 2])
+    for spot in SPOTS:
+        yield case(placed(spot, 'b1', 4), b'good' + '\U0001f600'.encode())
+
+
+def fault_order():
+    """A bad text and another refusal, before it and behind it."""
+    for other in ('ff:0', '40:1', 'f0.40:0', 'f0.50:1,60:1', 'f0:0', 'd1:1', 'b1:1048577', '98:1', 'd0:9'):
+        for rows in (f'd0:3,b1:2,{other},b1:3', f'd0:3,b1:2,b1:3,{other}', f'f0.d0:2,d0:2,b1:2,{other},d0:1,b1:3', f'f0.d0:2,d0:2,b1:2,b1:3,d0:1,{other}'):
+            yield case(rows, b'okab\x80')
+    for rows, text in [('d0:2,b1:2,b3:2', b'a\xffb\xff'), ('d0:2,b3:2,b1:2', b'a\xffb\xff'), ('f0.b1:2,b1:2*2', b'a\xff\xffb'), ('d0:2,b1:2,b1:2', b'ab\xff\xff'),
+                       ('b1:3,40:0', b'aa\xff'), ('d0:2,b1:3', b'aa\xff'), ('b1:3,+40', b'aa\xff'), ('f0.b1:2,b1:3,b3:1', b'aa\xffa'), ('f0.b1:2,b3:3,b1:1', b'aa\xffa'),
+                       ('f0.50:1,b1:3', b'aa\xff')]:
+        yield case(rows, text)
+    for room in (0, 6, 7, 8):
+        yield case('b1:5', b'abc\xc3\x98', room)
+        yield case('b1:5', b'abc\xc3x', room)
+
+
+def fault_levels():
+    """A bad text at a limit's last level, and one beyond it."""
+    for limit in (1, 2, 16, LEVELS):
+        for depth in (limit - 1, limit):
+            yield case(','.join(['d0:2'] * depth + ['b1:3'] + ['40:0'] * depth), b'aa\x80', limit=limit)
+            yield case(','.join(['d0:2,b0:2'] * depth + ['b3:1']), b'aa' * depth + b'\x80', limit=limit)
+            if depth:
+                yield case(f'f0.f0:1*{depth - 1},f0.b1:2,b1:3*2', b'abcab\xc3', limit=limit)
+                yield case(','.join(['f0.d0:1,d0:1'] * (depth // 2) + ['d0:1'] * (depth % 2) + ['b1:3']), b'ab\xc3', limit=limit)
+    for limit in NOT_NAMED:
+        yield case('b1:3', b'ab\xc3', limit=limit)
+
+
+def fault_far():
+    """Behind as much text as a table may have, and more."""
+    for kind, bad in (('b1', b'\xe2\x82'), ('b3', b'\x80')):
+        for length in (MOST, MOST - 5):
+            yield case(f'{kind}:{length}', b'a' * (length - len(bad)) + bad, MOST)
+            yield case(f'{kind}:{length}', bad + b'a' * (length - len(bad)), MOST)
+        yield case(f'd0:4,b0:1000000*3,{kind}:3', b'\xff' * 3000000 + b'aaa'[len(bad):] + bad, MOST)
+
+
 SMALL = [
     ('worked examples', worked), ('examples/order.amqp', example), ('1: rows amiss', rows_amiss), ('2: kinds unknown', kinds_unknown),
     ('3: levels', levels),
@@ -632,8 +767,11 @@ SMALL = [
     ('4 and 5: what an array tells', told_kinds), ('empty arrays of every kind', told_empty), ('their bodies', told_bodies),
     ('the order of refusals at what an array tells', told_order), ('tables from outside', outside),
     ('3: levels within other limits', named_levels), ('other refusals within other limits', named_faults),
-    ('15: limits that may not be named', not_named)]
-BIG = [('7: too long', too_long), ('more compounds than are kept beside the output', marks), ('7, 15 and more compounds within other limits', big_limits)]
+    ('15: limits that may not be named', not_named),
+    ('6: the byte of a fault', fault_bytes), ('behind more and more bytes', fault_places), ('behind rows of every kind with text', fault_before),
+    ('a sequence over two rows', fault_split), ('too short and bad', fault_short), ('wherever a text may stand', fault_spots),
+    ('bad text and other refusals', fault_order), ('bad text at the last levels', fault_levels)]
+BIG = [('7: too long', too_long), ('more compounds than are kept beside the output', marks), ('7, 15 and more compounds within other limits', big_limits), ('6: far behind', fault_far)]
 
 if __name__ == '__main__':
     store('own_write.txt', SMALL)

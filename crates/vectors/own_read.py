@@ -9,7 +9,7 @@ import sys
 sys.dont_write_bytecode = True
 from form import bytes_field, bytes_of, store
 from model import LEVELS, Refused
-from own import NAMED, NOT_NAMED
+from own import BEFORE, FEW, LENGTHS, NAMED, NOT_NAMED, SPOILED
 from read_model import CODES, ELEMENT_CODES, measure, read, step, walk
 
 REFUSED_ROOM = 4        # words and bytes of text lent where the bytes are refused
@@ -369,6 +369,131 @@ def not_named():
         yield from faults(limit)
 
 
+def sized(width, text):
+    """A text with its length, as it stands behind a code."""
+    return len(text).to_bytes(width, 'big') + text
+
+
+def string(text):
+    """A string in the form that the writer would choose."""
+    return b'\xa1' + sized(1, text) if len(text) < 255 else b'\xb1' + sized(4, text)
+
+
+def symbol(text):
+    return b'\xa3' + sized(1, text) if len(text) < 255 else b'\xb3' + sized(4, text)
+
+
+def fault_bytes():
+    """Each spoiled sequence alone, with good text behind it, and behind good text; in arrays as the first string and as the third."""
+    for i, bad in enumerate(SPOILED):
+        before = BEFORE[i % len(BEFORE)]
+        yield case(string(bad))
+        yield case(string(before + bad + b'z'))
+        code, width = (0xa1, 1) if i % 2 else (0xb1, 4)
+        yield case(arrayed(code, *[sized(width, text) for text in ((bad, before), (before, b'', before + bad))[i % 4 // 2]]))
+
+
+def fault_places():
+    """The same faults behind more and more bytes, and good sequences of each length; the first, a middle and the last byte."""
+    for bad in FEW:
+        for before in [b'a' * length for length in LENGTHS] + [letter.encode() * times for letter in 'Ø€\U0001f600' for times in (1, 5, 20)]:
+            yield case(string(before + bad))
+    for length in LENGTHS:
+        for text in (b's' * length + b'\x80', b's' * length + b'\xc3\x98' + b's' * 20):
+            yield case(symbol(text))
+        for code in (0xb1, 0xb3):
+            yield case(b'\x00\x40' + bytes([code]) + sized(4, b't' * length + b'\xff'))
+            yield case(b'\xf0' + fields(4, 2, bytes([code]) + sized(4, b'good') + sized(4, b't' * length + b'\xff')))
+    for code in (0xa1, 0xa3):
+        yield case(bytes([code, 255]) + b't' * 254 + b'\x80')
+        for at in (0, 20, 39):
+            for byte in (b'\x80', b'\xc3', b'\xff'):
+                text = b't' * at + byte + b't' * (39 - at)
+                yield case(bytes([code]) + sized(1, text))
+                yield case(arrayed(code, sized(1, b'good'), sized(1, text)))
+
+
+def fault_ends():
+    """A sequence that its text cuts off is a fault at its first byte, though the bytes behind the text would end it."""
+    for letter in 'Ø€\U0001f600':
+        text = letter.encode()
+        for at in range(1, len(text)):
+            cut, rest = b'ab' + text[:at], text[at:]
+            yield case(string(cut) + rest)
+            yield case(arrayed(0xa1, sized(1, cut), sized(1, b'')) + rest)
+            yield case(listed(string(cut), b'\xa0' + sized(1, rest)))
+            yield case(string(cut)[:-1] + rest)
+            yield case(bytes([0xa1, len(text) + 3]) + cut)
+            yield case(listed(b'\x40', arrayed(0xa1, bytes([len(text) + 3]) + cut)))
+
+
+def of_list(width, *values):
+    """An element that is a list, behind the code of that width."""
+    return fields(width, len(values), b''.join(values))
+
+
+def spots(code, text):
+    """Where a text may stand. They have up to six levels."""
+    width = 1 if code < 0xb0 else 4
+    bad, good = sized(width, text), sized(width, b'good')
+    value, other = bytes([code]) + bad, bytes([code]) + good
+    inner = fields(1, 2, bytes([code]) + good + bad)
+    yield from (value, listed(value), listed(b'\x40', other, value, b'\x40'), b'\xc1' + fields(1, 2, value + b'\x40'), b'\xc1' + fields(1, 4, b'\x40' + other + b'\x40' + value),
+                b'\x00' + value + b'\x40', b'\x00' + other + value, listed(b'\x40', b'\x00\x40\x00' + other + value),
+                arrayed(code, bad), arrayed(code, good, sized(width, b''), bad, good), b'\xf0' + fields(4, 2, bytes([code]) + good + bad), listed(b'\x40', arrayed(code, good, bad)),
+                arrayed(0xe0, inner), listed(b'\x40', arrayed(0xe0, fields(1, 0, b''), fields(1, 1, b'\x50\x07'), inner)), arrayed(0xf0, fields(4, 1, b'\xe0' + inner)),
+                arrayed(0xc0, of_list(1, other, value)), arrayed(0xd0, of_list(4, other), of_list(4, b'\x40', value)), listed(b'\x40', arrayed(0xe0, fields(1, 1, b'\xc0' + of_list(1, other, value)))),
+                arrayed(0xc1, of_list(1, value, b'\x40')), arrayed(0xd1, of_list(4), of_list(4, b'\x40', value)), arrayed(0xc0, of_list(1, b'\x00' + other + value)),
+                arrayed(0xc0, of_list(1, b'\x40', arrayed(0xc1, of_list(1, b'\x40', arrayed(code, good, bad))))))
+
+
+def fault_spots():
+    for code in (0xa1, 0xb1):
+        for text in (b'\xc3', b'ab\xf0\x90\x80'):
+            yield from (case(data, limit=(LEVELS, 16)[i % 2]) for i, data in enumerate(spots(code, text)))
+    for code in (0xa3, 0xb3):
+        yield from map(case, spots(code, b'abc\x80d'))
+    yield from map(case, spots(0xa0, b'\xff'))
+    yield from map(case, spots(0xa1, 'aØ'.encode()))
+
+
+def fault_order():
+    """A bad text and another refusal in one array, before it and behind it; a boolean or char there has the array's place."""
+    bad = b'\xa1\x02a\xff'
+    others = [bytes.fromhex(data) for data in ('5602', '730000d800', '730000', '46', 'c00101', 'c000', 'c1020140', 'c0030140', 'a105aa', 'e0020140', 'e003015602', '')]
+    for other in others:
+        for data in (arrayed(0xc0, of_list(1, bad, other)), arrayed(0xc0, of_list(1, other, bad)), arrayed(0xc0, of_list(1, bad), of_list(1, other)),
+                     arrayed(0xc0, of_list(1, other), of_list(1, bad))):
+            yield case(listed(b'\x40', data))
+        yield case(listed(bad, other))
+        yield case(listed(other, bad))
+        yield case(listed(arrayed(0xa1, bad[1:]), other))
+        yield case(listed(other, arrayed(0xa1, bad[1:])))
+    # two bad texts; bytes left in the array, a text too long for it, a count that is too high
+    yield from hexes('e00702a102ff6102ff61', 'e00702a10261ff01ff', 'e00601a10261ff00', 'e00603a10261ff05', 'e00602a10261ff05', 'e00602a10561ff05', 'e00503a10161ff', 'e00402a101ff',
+                     'c00601a101ffa105', 'e00501b10000', 'e00801b100000002ff', 'c10501a101ff40', 'c10402a101ff', 'c00402a101ff', 'c00501a101ff40', 'e10401a101ff', '46a101ff')
+    for words, letters in ((0, 0), (1, 2), (2, 1)):
+        yield case(bad, words, letters)
+        yield case(arrayed(0xa1, bad[1:]), words, letters)
+
+
+def fault_levels():
+    """A bad text at a limit's last level, and one beyond it, in lists, and in arrays and lists by turns; a bad char beside it."""
+    bad = b'\xa1\x02a\xff'
+    for limit in (1, 2, 16, LEVELS):
+        for depth in (limit - 1, limit):
+            for data in (bad, b'\xa3\x01\x80', b'\x73\x00\x00\xd8\x00'):
+                yield case(below(lambda value: listed(b'\x40', value), depth, data), limit=limit)
+            if depth:
+                for code, items in ((0xa1, bad[1:]), (0x56, b'\x02'), (0xc0, of_list(1, bad))):
+                    for _ in range(depth - 1):
+                        code, items = 0xe0, fields(1, 1, bytes([code]) + items)
+                    yield case(arrayed(code, items), limit=limit)
+                yield case(below(lambda value: arrayed(0xc0, of_list(1, value)), depth // 2, listed(bad) if depth % 2 else bad), limit=limit)
+    for limit in NOT_NAMED:
+        yield case(bad, limit=limit)
+
+
 def steps(data, at=0, limit=LEVELS):
     """A line: the walker's steps from a place on, to its end or to a refusal, and one more, which says the same."""
     count, place, answer = 1, at, None
@@ -418,12 +543,30 @@ def walked_not_named():
         yield from (steps(b'\x40' + data, 1, limit) for data in nests(LEVELS + 1))
 
 
+def walked_texts():
+    """A bad text in the first, the second and the third value: the place counts from that value's start."""
+    texts = [string(b'ab\xe2\x82'), symbol(b'a\x80'), listed(b'\x40', string(b'\xc3')), arrayed(0xb1, sized(4, b'good'), sized(4, b'ab\xff')),
+             arrayed(0xc0, of_list(1, b'\x40', string(b'\x80'))), b'\x00' + string(b'\xf0\x90') + b'\x40', arrayed(0xc0, of_list(1, b'\x56\x02', string(b'\xff'))), b'\xa1\x03\xff']
+    for limit in (2, 16, LEVELS):
+        for data in texts:
+            for before in (b'', TEXT, THREE):
+                yield steps(before + data + b'\x80', 0, limit)
+    for data in texts:
+        yield steps(THREE + data, len(THREE), 16)
+        yield steps(data, 1, 16)
+    for limit in (0, 1, 33):
+        yield steps(TEXT + texts[0], 0, limit)
+
+
 SECTIONS = [('every code', every_code), ('numbers', numbers), ('texts', texts), ('sizes and counts', sizes), ('arrays', arrays),
             ('arrays of lists, maps and arrays', compounds), ('their refusals', compound_faults), ('their levels', compound_levels),
             ('levels', levels), ('rooms', rooms), ('what an array tells', told), ('empty arrays at the last levels', told_levels),
             ('bytes from outside', outside), ('levels within other limits', named_levels),
-            ('other refusals within other limits', named_faults), ('15: limits that may not be named', not_named)]
-WALKS = [('every place', named_places), ('levels', walked_levels), ('other refusals', walked_faults), ('15: limits that may not be named', walked_not_named)]
+            ('other refusals within other limits', named_faults), ('15: limits that may not be named', not_named),
+            ('11: the byte of a fault', fault_bytes), ('behind more and more bytes', fault_places), ('sequences that a text cuts off', fault_ends),
+            ('wherever a text may stand', fault_spots), ('bad text and other refusals', fault_order), ('bad text at the last levels', fault_levels)]
+WALKS = [('every place', named_places), ('levels', walked_levels), ('other refusals', walked_faults), ('15: limits that may not be named', walked_not_named),
+         ('bad texts', walked_texts)]
 
 if __name__ == '__main__':
     store('own_read.txt', SECTIONS)
