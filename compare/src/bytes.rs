@@ -15,6 +15,7 @@ use crate::{
     reader::{self, Found},
     report,
     table::{hex, Table},
+    texts::Tally,
 };
 
 pub struct Plan {
@@ -36,6 +37,7 @@ pub fn run(plan: &Plan) -> Findings {
     for number in ANSWERS {
         judge.findings.need(&format!("of runs of bytes the answer {number}"), judge.numbers[number]);
     }
+    judge.bad.all().for_each(|(what, count)| judge.findings.need(&format!("of runs of bytes {what}"), count));
     judge.findings.add(levels::conclude([("runs of bytes", judge.levels)]));
     judge.findings.print();
     judge.findings
@@ -56,6 +58,7 @@ struct Judge {
     findings: Findings,
     levels: levels::Judge,
     numbers: [u64; 16],
+    bad: Tally,
     fronts: u64,
     appended: u64,
     changed: u64,
@@ -78,6 +81,7 @@ impl Judge {
             findings: Findings::default(),
             levels: levels::Judge::new(seed, levels::BYTES),
             numbers: [0; 16],
+            bad: Tally::default(),
             fronts: 0,
             appended: 0,
             changed: 0,
@@ -132,7 +136,8 @@ impl Judge {
 
     /// The judge's own reader gives the same answer, and the same table. It says how deep it looked.
     fn own(&mut self, bytes: &[u8], told: &Told) -> u32 {
-        let Found { value, deepest } = reader::read(Limit::HIGHEST, bytes);
+        let Found { value, deepest, bad } = reader::read(Limit::HIGHEST, bytes);
+        bad.iter().for_each(|bad| self.bad.count(bad));
         let same = match value {
             Ok((table, length)) => {
                 let back = ours::read_whole(Limit::HIGHEST, bytes).1;
@@ -302,27 +307,27 @@ impl Judge {
     fn print(&self, plan: &Plan) {
         let of = |what: &str, count| vec![what.to_string(), report::number(count)];
         let refused = |n: usize| of(&format!("refused with {n}"), self.numbers[n]);
-        report::table(
-            1,
-            &[&format!("random, damaged and truncated bytes, seed {}", plan.seed), "number"],
-            &[
-                of("runs of bytes", plan.runs),
-                of("accepted", self.numbers[0]),
-                of("of these with an empty array that tells no kind, all refused by the writer (5 at its row)", self.untold),
-                refused(3),
-                refused(4),
-                refused(9),
-                refused(10),
-                refused(11),
-                refused(12),
-                of("proper fronts of accepted values, all refused with 9", self.fronts),
-                of("runs with bytes appended", self.appended),
-                of("of these with another answer, all of them a 9 before", self.changed),
-                of("steps of walks through runs end to end", self.walked),
-                of("tables in forms chosen at random, read to the same tables", self.forms),
-                of("of these with an empty array that tells no kind and has no element code", self.untold_forms),
-            ],
-        );
+        let mut rows = vec![
+            of("runs of bytes", plan.runs),
+            of("accepted", self.numbers[0]),
+            of("of these with an empty array that tells no kind, all refused by the writer (5 at its row)", self.untold),
+            refused(3),
+            refused(4),
+            refused(9),
+            refused(10),
+            refused(11),
+        ];
+        rows.extend(self.bad.all().map(|(what, count)| of(&format!("of these {what}"), count)));
+        rows.extend([
+            refused(12),
+            of("proper fronts of accepted values, all refused with 9", self.fronts),
+            of("runs with bytes appended", self.appended),
+            of("of these with another answer, all of them a 9 before", self.changed),
+            of("steps of walks through runs end to end", self.walked),
+            of("tables in forms chosen at random, read to the same tables", self.forms),
+            of("of these with an empty array that tells no kind and has no element code", self.untold_forms),
+        ]);
+        report::table(1, &[&format!("random, damaged and truncated bytes, seed {}", plan.seed), "number"], &rows);
     }
 }
 

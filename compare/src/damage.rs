@@ -7,6 +7,7 @@ use crate::{
     ours,
     random::Random,
     table::Table,
+    texts,
 };
 
 /// All 40 format codes, and a few bytes that are none.
@@ -51,6 +52,12 @@ impl Damage {
                 let length = self.random.below(self.bytes.len());
                 self.bytes.truncate(length);
             }
+            20..=24 => {
+                self.spoiled();
+                if self.random.once_in(4) {
+                    self.hurt();
+                }
+            }
             _ => {
                 self.written();
                 for _ in 0..self.random.within(1, 3) {
@@ -83,7 +90,7 @@ impl Damage {
     /// Lists, arrays and described values, one in the other, to about the last level of a limit or beyond it. An array of one element has the bytes of a
     /// list of one value, but for its code.
     fn deep(&mut self) {
-        let inner: [&[u8]; 9] = [
+        let inner: [&[u8]; 12] = [
             &[0x40],
             &[0x45],
             &[0x50, 7],
@@ -93,6 +100,9 @@ impl Damage {
             &[0xe0, 1, 1],
             &[0xc1, 1, 2],
             &[0x46],
+            &[0x56, 2],
+            &[0xa1, 3, b'x', 0xe2, 0x82],
+            &[0xa3, 2, b'x', 0x80],
         ];
         let inner = self.random.of(&inner);
         let wraps =
@@ -121,6 +131,22 @@ impl Damage {
         if self.random.once_in(3) {
             self.hurt();
         }
+    }
+
+    /// A table's bytes, in forms that we read, with bad text in them where there is any.
+    fn spoiled(&mut self) {
+        const LONG: usize = 2_000;
+        let mut table = loop {
+            let table = self.tables.table();
+            if table.words.len() <= LONG && table.text.len() <= LONG {
+                break table.clone();
+            }
+        };
+        for _ in 0..self.random.within(1, 2) {
+            texts::spoil(&mut table, &mut self.random);
+        }
+        self.bytes.clear();
+        forms::write(&table, &mut self.forms, &mut self.bytes);
     }
 
     /// A table's bytes, as we write them or in other forms that we read; long ones are left out, since there are enough of them elsewhere.

@@ -37,7 +37,7 @@ const CASES: [Case; 40] = [
         text: "c3 98",
         crate_does: "e0 08 01 b1 00 00 00 01 c3 98",
         we_do: "e0 08 01 b1 00 00 00 02 c3 98",
-        we_read: "11 at 0",
+        we_read: "11 at 8",
         part_1: "the length counts octets: ours",
     },
     Case {
@@ -235,7 +235,7 @@ const CASES: [Case; 40] = [
         text: "c3 98",
         crate_does: "a3 02 c3 98",
         we_do: "6 at 0",
-        we_read: "11 at 0",
+        we_read: "11 at 2",
         part_1: "symbols are ASCII: no such symbol",
     },
     Case {
@@ -453,8 +453,12 @@ fn unlike_document() -> Vec<String> {
                 unlike.push(format!("{} does not state `{due}`", case.difference));
             }
         }
-        // the writer's places are rows, but for that of 7
-        let row = if case.we_do.starts_with("7 ") { " at place " } else { " at row " };
+        // the writer's places are rows, but for that of 7; those of 6 here are bytes of a bad text
+        let row = match case.we_do.split(' ').next() {
+            Some("7") => " at place ",
+            Some("6") => " at byte ",
+            _ => " at row ",
+        };
         for due in [case.we_do.replace(" at ", row), case.we_read.to_string()] {
             if due.contains(" at ") && !plain(section(case.difference)).contains(&due) {
                 unlike.push(format!("{} does not state {due}", case.difference));

@@ -5,6 +5,7 @@ use crate::{
     limit::Limit,
     ours::Told,
     table::{count_in, kind_in, Kind, Row, Table},
+    texts::{self, Bad},
 };
 
 pub const MOST: u64 = 1_048_576;
@@ -15,6 +16,8 @@ pub struct Checked {
     pub refusal: Option<Told>,
     /// The deepest level at which a row was looked for.
     pub deepest: u32,
+    /// The text that is refused, where one is bad.
+    pub bad: Option<Bad>,
 }
 
 pub fn check(limit: Limit, table: &Table) -> Checked {
@@ -57,9 +60,9 @@ enum Spot {
 
 /// Goes over a whole table, and shows each row that is good to `see`.
 fn walk(limit: Limit, table: &Table, see: &mut impl FnMut(&Row, Spot)) -> Checked {
-    let mut left = Left { table, row: 0, text: 0, deepest: 0 };
+    let mut left = Left { table, row: 0, text: 0, deepest: 0, arrays: 0, bad: None };
     let refusal = left.whole(limit, see).err();
-    Checked { refusal, deepest: left.deepest }
+    Checked { refusal, deepest: left.deepest, bad: left.bad }
 }
 
 /// The rows and the text that are still to be taken.
@@ -68,6 +71,9 @@ struct Left<'a> {
     row: usize,
     text: usize,
     deepest: u32,
+    /// The arrays around the next row.
+    arrays: u32,
+    bad: Option<Bad>,
 }
 
 impl<'a> Left<'a> {
@@ -86,6 +92,8 @@ impl<'a> Left<'a> {
         self.deepest = self.deepest.max(level);
         let row = self.take(level <= levels, spot)?;
         see(&row, spot);
+        let array = (row.kind == Kind::Array) as u32;
+        self.arrays += array;
         for i in 0..row.children() {
             let below = match row.kind {
                 Kind::Array => Spot::Element(row.element().expect("an array that was taken tells a kind")),
@@ -96,6 +104,7 @@ impl<'a> Left<'a> {
             };
             self.value(level + 1, levels, below, see)?;
         }
+        self.arrays -= array;
         Ok(())
     }
 
@@ -117,7 +126,10 @@ impl<'a> Left<'a> {
         let length = kind.text(number);
         need(length <= table.text.len() - self.text, 6)?;
         let text = &table.text[self.text..self.text + length];
-        need(text_fits(kind, text), 6)?;
+        if let Some(fault) = texts::fault(kind, text) {
+            self.bad = Some(Bad::text(kind, text, fault, self.text, self.arrays));
+            return Err(Told::refusal(6, (self.text + fault) as u64));
+        }
         self.row += 1;
         self.text += length;
         Ok(Row { kind, number, text })
@@ -133,13 +145,5 @@ fn number_fits(kind: Kind, number: u64) -> bool {
         Kind::Array => count_in(number) <= MOST && Kind::of(kind_in(number)).is_some_and(Kind::is_element),
         Kind::Binary | Kind::String | Kind::Symbol | Kind::List => number <= MOST,
         kind => kind.bits().is_some_and(|bits| bits == 64 || number >> bits == 0),
-    }
-}
-
-fn text_fits(kind: Kind, text: &[u8]) -> bool {
-    match kind {
-        Kind::String => std::str::from_utf8(text).is_ok(),
-        Kind::Symbol => text.is_ascii(),
-        _ => true,
     }
 }

@@ -11,6 +11,7 @@ use crate::{
     random::Random,
     report,
     table::{array, count_in, kind_in, Kind, Table},
+    texts::{self, Tally},
 };
 
 /// The last refusal of sizing.
@@ -20,7 +21,7 @@ const LAST: usize = 7;
 const LONGEST: usize = 10_000;
 
 /// What is refused: the number, and what of it is counted.
-const PARTS: [(usize, &str); 8] = [
+const PARTS: [(usize, &str); 10] = [
     (1, "an odd number of words"),
     (4, "an element unlike what its array tells"),
     (4, "an array that tells null"),
@@ -29,6 +30,8 @@ const PARTS: [(usize, &str); 8] = [
     (5, "an empty array that tells no kind"),
     (5, "an array that tells what is none of the 25 kinds, below 256"),
     (5, "an array that tells what is none of the 25 kinds, from 256 on"),
+    (6, "too little text for a row"),
+    (6, "text left at the end"),
 ];
 
 pub struct Judge {
@@ -37,6 +40,7 @@ pub struct Judge {
     all: u64,
     numbers: [u64; 16],
     parts: [u64; PARTS.len()],
+    bad: Tally,
     nested: u64,
     empty: u64,
     pub levels: levels::Judge,
@@ -54,6 +58,7 @@ impl Judge {
             all: 0,
             numbers: [0; 16],
             parts: [0; PARTS.len()],
+            bad: Tally::default(),
             nested: 0,
             empty: 0,
             levels: levels::Judge::new(seed, levels::FAULTS),
@@ -104,7 +109,7 @@ impl Judge {
     /// Sizing and writing answer what is due, and a refusal touches nothing.
     fn hold(&mut self) {
         self.all += 1;
-        let Checked { refusal, deepest } = domain::check(Limit::HIGHEST, &self.table);
+        let Checked { refusal, deepest, bad } = domain::check(Limit::HIGHEST, &self.table);
         self.due.clear();
         let due = match refusal {
             Some(refusal) => refusal,
@@ -117,7 +122,10 @@ impl Judge {
             }
         };
         self.numbers[due.number as usize] += 1;
-        self.count_part(&due);
+        match bad {
+            Some(bad) => self.bad.count(&bad),
+            None => self.count_part(&due),
+        }
         self.nested += self.table.is_nested() as u64;
         self.empty += self.table.has_empty_array() as u64;
         self.out.clear();
@@ -134,10 +142,14 @@ impl Judge {
         self.levels.table(&self.table, &self.due, deepest);
     }
 
-    /// Counts parts of what is refused.
+    /// Counts parts of what is refused, but for bad texts: there the place is no row.
     fn count_part(&mut self, due: &Told) {
         if due.number == 1 && self.table.words.len() % 2 == 1 {
             self.parts[0] += 1;
+        }
+        if due.number == 6 {
+            let is_left = due.place == self.table.rows() as u64;
+            self.parts[if is_left { 9 } else { 8 }] += 1;
         }
         let row = 2 * due.place as usize;
         let Some(&[kind, number]) = self.table.words.get(row..row + 2) else { return };
@@ -170,6 +182,11 @@ impl Judge {
                 break self.table.clone_from(table);
             }
         }
+        if self.random.once_in(4) {
+            for _ in 0..self.random.within(1, 2) {
+                texts::spoil(&mut self.table, &mut self.random);
+            }
+        }
         for _ in 0..self.random.below(3) {
             self.hurt();
         }
@@ -193,7 +210,7 @@ impl Judge {
         let kinds = self.random.of(&[&[Kind::List][..], &[Kind::Array], &[Kind::List, Kind::Array], &[Kind::Array, Kind::Map]]);
         let last = Limit::last_level(&mut self.random) as usize;
         let levels = self.random.within(last.saturating_sub(3), last + 2);
-        let last = self.random.of(&[Kind::Null, Kind::Ubyte, Kind::List, Kind::Array, Kind::Map, Kind::Described]);
+        let last = self.random.of(&[Kind::Null, Kind::Ubyte, Kind::String, Kind::List, Kind::Array, Kind::Map, Kind::Described]);
         for level in 0..levels {
             let kind = kinds[level % kinds.len()];
             let next = if level + 1 < levels { kinds[(level + 1) % kinds.len()] } else { last };
@@ -205,7 +222,10 @@ impl Judge {
             }
         }
         let (number, told) = (self.random.below(3) as u64, self.random.of(&Kind::ALL));
-        self.table.compound(last, number, told);
+        match last {
+            Kind::String => self.table.worded(last, &[b'x', self.random.byte()]),
+            _ => self.table.compound(last, number, told),
+        };
         if self.random.once_in(3) {
             self.hurt();
         }
@@ -278,6 +298,7 @@ impl Judge {
             self.findings.need(&format!("of tables with faults the answer {number}"), self.numbers[number]);
         }
         PARTS.iter().zip(self.parts).for_each(|((_, what), count)| self.findings.need(what, count));
+        self.bad.texts().for_each(|(what, count)| self.findings.need(&format!("of tables with bad text {what}"), count));
         let of = |what: &str, count| vec![what.to_string(), report::number(count)];
         let mut rows = vec![
             of("tables", self.all),
@@ -289,6 +310,9 @@ impl Judge {
             rows.push(of(&format!("refused with {number}"), self.numbers[number]));
             let parts = PARTS.iter().zip(self.parts).filter(|((refusal, _), _)| *refusal == number);
             rows.extend(parts.map(|((_, what), count)| of(&format!("of these {what}"), count)));
+            if number == 6 {
+                rows.extend(self.bad.texts().map(|(what, count)| of(&format!("of these {what}"), count)));
+            }
         }
         report::table(1, &["tables with faults", "number"], &rows);
         println!("For each, with the limit 32: sizing and writing answer what the judge's own checks answer, number and place, and a refusal leaves the output as it was.\n");

@@ -27,6 +27,7 @@ mod sample;
 mod shapes;
 mod small;
 mod table;
+mod texts;
 mod timing;
 
 use std::{env, process::ExitCode};

@@ -9,7 +9,7 @@ use crate::{
     limit::Limit,
     ours::{self, Told},
     proton::{Data, NODES},
-    report, small,
+    reader, report, small,
     table::{array, hex, Kind, Row, Rows, Table},
 };
 
@@ -389,11 +389,14 @@ fn leniency(bytes: &[u8], told: &Told, length: usize) -> &'static str {
     let behind = |count: usize| bytes.get(at + if short { 2 + count } else { 5 + 4 * count });
     match (told.number, code) {
         (3, _) => "accepts more than 32 levels",
-        (11, 0x56) => "accepts a boolean byte above 01",
-        (11, 0x73) => "accepts a char that is none",
-        (11, 0xa1 | 0xb1) => "accepts a string that is not UTF-8",
-        (11, 0xa3 | 0xb3) => "accepts a symbol that is not ASCII",
-        (11, _) => "accepts bad values in an array",
+        // the place of a bad text is its byte
+        (11, _) => match reader::read(Limit::HIGHEST, bytes).bad.map(|bad| (bad.kind, bad.arrays)) {
+            Some((Kind::Boolean, 0)) => "accepts a boolean byte above 01",
+            Some((Kind::Char, 0)) => "accepts a char that is none",
+            Some((Kind::String, 0)) => "accepts a string that is not UTF-8",
+            Some((Kind::Symbol, 0)) => "accepts a symbol that is not ASCII",
+            _ => "accepts bad values in an array",
+        },
         (4 | 12, _) if array && (elsewhere || told.number == 12) => "accepts an array in which a size or a count is wrong",
         (4, _) => match behind(1) {
             Some(0x40..=0x45) => "accepts an array of values without payload",

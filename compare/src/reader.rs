@@ -4,6 +4,7 @@ use crate::{
     limit::Limit,
     ours::Told,
     table::{Kind, Table},
+    texts::{self, Bad},
 };
 
 /// What stands behind a code; sizes, counts and numbers have so many bytes.
@@ -25,15 +26,17 @@ pub struct Found {
     pub value: Result<(Table, usize), Told>,
     /// The deepest level at which a value was looked for.
     pub deepest: u32,
+    /// What is refused with 11.
+    pub bad: Option<Bad>,
 }
 
 pub fn read(limit: Limit, bytes: &[u8]) -> Found {
-    let mut reader = Reader { bytes, levels: 0, deepest: 0, table: Table::default() };
+    let mut reader = Reader { bytes, levels: 0, deepest: 0, arrays: 0, bad: None, table: Table::default() };
     let length = limit.levels().and_then(|levels| {
         reader.levels = levels;
         reader.value(0, bytes.len(), 1, None)
     });
-    Found { value: length.map(|length| (reader.table, length)), deepest: reader.deepest }
+    Found { value: length.map(|length| (reader.table, length)), deepest: reader.deepest, bad: reader.bad }
 }
 
 struct Reader<'a> {
@@ -41,6 +44,9 @@ struct Reader<'a> {
     /// The level limit.
     levels: u32,
     deepest: u32,
+    /// The arrays around what is read.
+    arrays: u32,
+    bad: Option<Bad>,
     table: Table,
 }
 
@@ -89,7 +95,7 @@ impl<'a> Reader<'a> {
         }
     }
 
-    /// The row of an array, which tells the kind of the element code or, without one, none; and its body. All that it holds is refused at one place.
+    /// The row of an array, which tells the kind of the element code or, without one, none; and its body. All that it holds is refused at one place, but for bad text.
     fn elements(&mut self, count: u64, place: usize, at: usize, end: usize, level: u32) -> Result<usize, Told> {
         if count > 0 {
             self.deepest = self.deepest.max(level + 1);
@@ -106,9 +112,11 @@ impl<'a> Reader<'a> {
         need(payload, 4, place)?;
         self.table.array(kind, count);
         let mut at = at + 1;
+        self.arrays += 1;
         for _ in 0..count {
             at = self.payload(code, place, at, end, level + 1, Some(place))?;
         }
+        self.arrays -= 1;
         need(at == end, 12, place)?;
         Ok(end)
     }
@@ -148,15 +156,20 @@ impl<'a> Reader<'a> {
             Layout::Whole(width) => (self.number(width, place, at, end)?, 0..0, width),
             _ => unreachable!("no scalar"),
         };
-        let text = &self.bytes[text];
         let good = match kind {
             Kind::Boolean => number <= 1,
             Kind::Char => char::from_u32(number as u32).is_some(),
-            Kind::String => std::str::from_utf8(text).is_ok(),
-            Kind::Symbol => text.is_ascii(),
             _ => true,
         };
-        need(good, 11, place)?;
+        if !good {
+            self.bad = Some(Bad::number(kind, self.arrays));
+            return Err(Told::refusal(11, place as u64));
+        }
+        let (from, text) = (text.start, &self.bytes[text]);
+        if let Some(fault) = texts::fault(kind, text) {
+            self.bad = Some(Bad::text(kind, text, fault, self.table.text.len(), self.arrays));
+            return Err(Told::refusal(11, (from + fault) as u64));
+        }
         self.table.text.extend_from_slice(text);
         self.table.row(kind, number);
         Ok(at + length)
