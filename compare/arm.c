@@ -1,6 +1,6 @@
 /* arm COUNT: so many random tables and runs of bytes, good and bad, through all ten functions, with and without a level limit. Prints how many were
- * written and read, how many calls were refused for a level or a limit, and a hash of all answers and of all memory that was lent, so that the same
- * program on two processors can be compared (compare/arm). */
+ * written and read, how many calls were refused for a level, for text, for a payload and for a limit, and a hash of all answers and of all memory that was
+ * lent, so that the same program on two processors can be compared (compare/arm). */
 #include <inttypes.h>
 #include <stdio.h>
 #include <stdlib.h>
@@ -56,9 +56,14 @@ static void row(uint64_t kind, uint64_t n) {
 /* The number of an array's row. */
 static uint64_t array(uint64_t count, uint64_t kind) { return count | kind << 32; }
 
-/* Mostly ASCII. */
+/* Mostly ASCII; now and then a sequence of two to four bytes, which the text's end may cut off, or any byte. */
 static void spell(size_t n) {
-    for (; n > 0 && text_length < TEXT; n--) text[text_length++] = (uint8_t)(below(20) ? 32 + below(90) : any());
+    static const char *const sequences[] = {"\xc3\x98", "\xe2\x82\xac", "\xf0\x9f\x98\x80"};
+    const char *next = "";
+    for (; n > 0 && text_length < TEXT; n--) {
+        if (!*next && !below(20)) next = sequences[below(3)];
+        text[text_length++] = (uint8_t)(!below(60) ? any() : *next ? *next++ : (char)(32 + below(90)));
+    }
 }
 
 static void scalar(uint64_t kind) {
@@ -151,7 +156,7 @@ int main(int argc, char **argv) {
             mix(&at, sizeof at);
         }
     }
-    printf("%" PRIu64 " tables, %" PRIu64 " written, %" PRIu64 " read; calls refused: %" PRIu64 " with 3, %" PRIu64 " with 15; hash %016" PRIx64 "\n",
-           count, written, read, answers[3], answers[15], hash);
+    printf("%" PRIu64 " tables, %" PRIu64 " written, %" PRIu64 " read; calls refused: %" PRIu64 " with 3, %" PRIu64 " with 6, %" PRIu64 " with 11, %" PRIu64 " with 15; hash %016" PRIx64 "\n",
+           count, written, read, answers[3], answers[6], answers[11], answers[15], hash);
     return 0;
 }
