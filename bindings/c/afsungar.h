@@ -22,18 +22,18 @@
  * The level limit
  *   The root of a value is at level 1, and each child is one level below its parent. Each function has two forms: NAME_within takes
  *   the level limit as its first argument, and NAME is the same at 16.
- *   - A limit has to be from 1 to 32. Any other is refused with 15 at place 0, before every other check: before odd words, and in
- *     each step of the walker, even where it is done.
+ *   - A limit has to be from 1 to 32. Any other is refused with 15, before every other check: before odd words, and in each step
+ *     of the walker, even where it is done.
  *   - A value of more levels than the limit is refused with 3.
  *   - The limit belongs to the call: nothing of it is in the bytes, and a higher one changes neither the bytes nor the table of a
  *     value that a lower one takes. So a desk that reads with 16 refuses (3) what a station wrote with 32, if it has more than 16
  *     levels: whoever sends these has to know that all who read name as many.
  *
  * What is answered
- *   Each function returns the number of the refusal, 1 to 15 (below), or 0 for success. All else that it answers is stored
- *   behind the last pointers, and each of them is always stored. On success *place is 0. On a refusal *place says where, from 0:
- *   in writing a row; in reading an offset, which for all that stands in an array is that of the outermost array. Every length
- *   and count is then 0, and all lent memory is as it was. On success nothing is touched behind what is filled.
+ *   Each function returns the number of the refusal, 1 to 15, or 0 for success. All else that it answers is stored behind the
+ *   last pointers, and each of them is always stored. On success *place is 0, and nothing is touched behind what is filled. On a
+ *   refusal *place says where: the table of the refusals, below, has what it is with each number. Every length and count is then
+ *   0, and all lent memory is as it was.
  *
  * What is lent
  *   - A length counts what is lent: words_len counts words, so rows times 2; all other lengths count bytes.
@@ -42,8 +42,8 @@
  *   - Words and answers are uint64_t, aligned as such.
  *   - Memory that is filled (out, words and text in reading, and every answer) must not overlap other memory that is lent to
  *     the same call.
- *   - An odd number of words breaks nothing: sizing and writing refuse it (1 at place 0), and in reading the lone last word is
- *     room for no row and stays as it is.
+ *   - An odd number of words breaks nothing: sizing and writing refuse it (1), and in reading the lone last word is room for no
+ *     row and stays as it is.
  *
  * Nothing is allocated, nothing is kept between calls and no pointer is held, so calls from any number of threads are
  * independent of each other, as long as none fills memory that another uses. The need of stack is bounded, because the nesting of
@@ -58,23 +58,56 @@
 extern "C" {
 #endif
 
-/* The numbers of the refusals (docs/FORMAT.md, 5.1). */
+/* The refusals (docs/FORMAT.md, 5), W in sizing and writing, R in measuring, reading and steps. All places are counted from 0.
+ *
+ *     | AFSUNGAR_      |     | given when                                                                  | place
+ *   1 | ROWS_AMISS     | W   | the words are odd in number                                                 | 0
+ *     |                |     | a row is needed and none is left                                            | the number of rows
+ *     |                |     | rows are left at the end                                                    | the first of them
+ *   2 | KIND_UNKNOWN   | W   | the kind is not one of the 25                                               | the row
+ *   3 | TOO_DEEP       | W   | a value would be one level beyond the limit                                 | the row
+ *     |                |   R | the same                                                                    | the code
+ *   4 | ELEMENT_UNFIT  | W   | an array tells a kind that it cannot hold, or an element has another        | the row
+ *     |                |   R | an array's element code is not allowed                                      | the code
+ *   5 | NUMBER_OUTSIDE | W   | the number is not one that its kind allows (for an array's, see above)      | the row
+ *   6 | TEXT_AMISS     | W   | the text left is too short for the row; this comes before bad text          | the row
+ *     |                |     | bad text: a string is not UTF-8, or a symbol not ASCII                      | the byte of the text
+ *     |                |     | text is left at the end                                                     | the number of rows
+ *   7 | TOO_LONG       | W   | more than 1,048,576 bytes would be written                                  | 0
+ *   8 | OUTPUT_SHORT   | W   | the output is shorter than the size                                         | 0
+ *   9 | INPUT_SHORT    |   R | a byte is needed beyond the input, or beyond the body that holds the value  | the code
+ *  10 | CODE_UNKNOWN   |   R | the format code is not one of the 40                                        | the code
+ *  11 | PAYLOAD_BAD    |   R | a boolean or a char is bad                                                  | the code
+ *     |                |     | bad text: a string is not UTF-8, or a symbol not ASCII                      | the byte of the input
+ *  12 | SIZE_AMISS     |   R | a size is below its count field; bytes left in a body; a map's count is odd | the code
+ *  13 | ROWS_SHORT     |   R | the lent words are too few for the rows                                     | 0
+ *  14 | TEXT_SHORT     |   R | the lent text is too short                                                  | 0
+ *  15 | LIMIT_OUTSIDE  | W R | the level limit is 0 or above 32                                            | 0
+ *
+ *   the code               the offset of the value's format code, or of where that would be, in the input. For all that stands in
+ *                          an array, at any depth, it is that of the array, and of arrays in arrays that of the outermost.
+ *   the byte of the text   the offset of the faulty byte in the whole text that is lent: the bytes of all rows before it count.
+ *   the byte of the input  the offset of the faulty byte in the input, in arrays too, at every depth.
+ *
+ *   The faulty byte of a string is the first at which, after correct sequences from its start, none begins: of a sequence that is
+ *   broken or cut off, its first byte. That of a symbol is its first byte of 0x80 or more. A step counts offsets from *at.
+ *   The place of a 6 is a row or a byte: afsungar_is_bad_text tells which, and afsungar_row_of_byte tells the row of a byte. */
 enum afsungar_refusal {
-    AFSUNGAR_ROWS_AMISS = 1,      /* words odd in number; a row is needed and none is left; rows are left at the end */
-    AFSUNGAR_KIND_UNKNOWN = 2,    /* the kind is not one of the 25 */
-    AFSUNGAR_TOO_DEEP = 3,        /* a value would be one level beyond the limit */
-    AFSUNGAR_ELEMENT_UNFIT = 4,   /* in writing as above, under Arrays; in reading: an array's element code is not allowed */
-    AFSUNGAR_NUMBER_OUTSIDE = 5,  /* the number is not one that its kind allows (for an array's, see above) */
-    AFSUNGAR_TEXT_AMISS = 6,      /* too little text for the row, or bad text; text is left at the end */
-    AFSUNGAR_TOO_LONG = 7,        /* more than 1,048,576 bytes would be written */
-    AFSUNGAR_OUTPUT_SHORT = 8,    /* the output is shorter than the size */
-    AFSUNGAR_INPUT_SHORT = 9,     /* a byte is needed beyond the input, or beyond the body that the value stands in */
-    AFSUNGAR_CODE_UNKNOWN = 10,   /* the format code is not one of the 40 */
-    AFSUNGAR_PAYLOAD_BAD = 11,    /* the payload of a boolean, char, string or symbol is bad */
-    AFSUNGAR_SIZE_AMISS = 12,     /* a size is below its count field; bytes are left in a body; a map's count is odd */
-    AFSUNGAR_ROWS_SHORT = 13,     /* the lent words are too few for the rows */
-    AFSUNGAR_TEXT_SHORT = 14,     /* the lent text is too short */
-    AFSUNGAR_LIMIT_OUTSIDE = 15   /* the level limit is 0 or above 32 */
+    AFSUNGAR_ROWS_AMISS = 1,
+    AFSUNGAR_KIND_UNKNOWN = 2,
+    AFSUNGAR_TOO_DEEP = 3,
+    AFSUNGAR_ELEMENT_UNFIT = 4,
+    AFSUNGAR_NUMBER_OUTSIDE = 5,
+    AFSUNGAR_TEXT_AMISS = 6,
+    AFSUNGAR_TOO_LONG = 7,
+    AFSUNGAR_OUTPUT_SHORT = 8,
+    AFSUNGAR_INPUT_SHORT = 9,
+    AFSUNGAR_CODE_UNKNOWN = 10,
+    AFSUNGAR_PAYLOAD_BAD = 11,
+    AFSUNGAR_SIZE_AMISS = 12,
+    AFSUNGAR_ROWS_SHORT = 13,
+    AFSUNGAR_TEXT_SHORT = 14,
+    AFSUNGAR_LIMIT_OUTSIDE = 15
 };
 
 /* The level limit: the least and the most that a call may name, and that of a call which names none. */
@@ -155,9 +188,52 @@ uint64_t afsungar_read_within(uint64_t limit, const uint8_t *bytes, size_t len, 
 /* A step of the walker through values that stand end to end; the caller keeps its place, *at, at first 0.
  *   0 with length 0: done. That is where *at is len or more; *at stays.
  *   0 with a length: a value of so many bytes at *at as it was, and *at has moved behind it.
- *   Otherwise a refusal, those of afsungar_measure: *at stays, and *place is counted from it. */
+ *   Otherwise a refusal, those of afsungar_measure: *at stays. */
 uint64_t afsungar_step(const uint8_t *bytes, size_t len, uint64_t *at, uint64_t *place, uint64_t *length);
 uint64_t afsungar_step_within(uint64_t limit, const uint8_t *bytes, size_t len, uint64_t *at, uint64_t *place, uint64_t *length);
+
+/* What a 6 needs beside its place. These three are plain C, over the functions above. They take any words and any text, and read
+ * nothing beyond them. */
+
+/* How many bytes of text a row has. */
+static inline uint64_t afsungar_text_length(uint64_t kind, uint64_t number) {
+    switch (kind) {
+    case AFSUNGAR_DECIMAL128:
+    case AFSUNGAR_UUID:
+        return 16;
+    case AFSUNGAR_BINARY:
+    case AFSUNGAR_STRING:
+    case AFSUNGAR_SYMBOL:
+        return number;
+    default:
+        return 0;
+    }
+}
+
+/* The row that a byte of the text belongs to; the number of rows where it belongs to none. *start: where that row's text begins,
+ * so that byte - *start counts within it. */
+static inline uint64_t afsungar_row_of_byte(const uint64_t *words, size_t words_len, uint64_t byte, uint64_t *start) {
+    uint64_t row = 0;
+    for (*start = 0; row < words_len / 2; row++) {
+        uint64_t length = afsungar_text_length(words[2 * row], words[2 * row + 1]);
+        if (length > byte - *start) break;
+        *start += length; /* byte at most, so there is no overflow */
+    }
+    return row;
+}
+
+/* Of words and text that were refused with a 6: 1 where the text is bad and place is the faulty byte; 0 where place is a row.
+ *
+ * Up to the row that is refused all texts are there and good. So if place is a byte, its row is bad by itself; and if it is a row,
+ * then the text in which there happens to be a byte of this number is good, or is not all there. */
+static inline int afsungar_is_bad_text(const uint64_t *words, size_t words_len, const uint8_t *text, size_t text_len,
+                                       uint64_t place) {
+    uint64_t start, row = afsungar_row_of_byte(words, words_len, place, &start), length, nowhere, size;
+    if (row == words_len / 2 || start > text_len) return 0;
+    length = afsungar_text_length(words[2 * row], words[2 * row + 1]);
+    if (length > text_len - start) return 0;
+    return afsungar_size(words + 2 * row, 2, text + start, (size_t)length, &nowhere, &size) == AFSUNGAR_TEXT_AMISS;
+}
 
 #ifdef __cplusplus
 }

@@ -33,6 +33,8 @@ static const uint64_t order[] = {
 static const uint8_t letters[] = "afsungar:order:list" "ear-shell" "\303\2301.2" "\303\2301.2" "\303\2301.3" "M4"
     "left" "right" "left" "\303\2301.2" "\303\2301.3" "right" "\303\2301.2";
 
+enum { WORDS = sizeof order / sizeof *order, LETTERS = sizeof letters - 1 }; /* without the 0 that C puts behind the text */
+
 static uint8_t bytes[MOST], text[MOST];
 static uint64_t table[2 * MOST];
 
@@ -43,8 +45,12 @@ static int refused(uint64_t refusal, uint64_t place) {
 
 static int write_order(void) {
     uint64_t place, length;
-    /* the text ends before the 0 that C puts behind it */
-    uint64_t refusal = afsungar_write(order, sizeof order / sizeof *order, letters, sizeof letters - 1, bytes, MOST, &place, &length);
+    uint64_t refusal = afsungar_write(order, WORDS, letters, LETTERS, bytes, MOST, &place, &length);
+    if (refusal == AFSUNGAR_TEXT_AMISS && afsungar_is_bad_text(order, WORDS, letters, LETTERS, place)) {
+        /* place is a byte of all the text: which row has it, and where in that row's text it is */
+        uint64_t start, row = afsungar_row_of_byte(order, WORDS, place, &start);
+        fprintf(stderr, "bad text in row %" PRIu64 ", at its byte %" PRIu64 "\n", row, place - start);
+    }
     if (refusal) return refused(refusal, place);
     return fwrite(bytes, 1, length, stdout) != length;
 }
