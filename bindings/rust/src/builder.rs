@@ -8,7 +8,7 @@ use crate::{Element, Kind, Table, Value};
 ///
 /// There is a method for each of the 25 kinds. Those with children take a closure that puts the children in; their number
 /// is counted. An array takes the kind of its elements as well. Nothing is checked on the way: the writer checks, and says
-/// which row is wrong.
+/// which row is wrong, or which byte of the text.
 ///
 /// ```
 /// # fn main() -> Result<(), afsungar::Refusal> {

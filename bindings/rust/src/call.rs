@@ -6,6 +6,7 @@
 //! SAFETY, for all ten: each pointer and length are those of a slice or a reference that lives through the call, so no
 //! pointer is null or unaligned; what is lent to be filled is lent as `&mut`, so it overlaps nothing. The library keeps no
 //! pointer and no state.
+use crate::table::Rows;
 use crate::{raw, Extent, Reason, Refusal};
 
 /// The level limit that a call names, if it names one.
@@ -36,7 +37,7 @@ pub(crate) fn size(limit: Limit, words: &[u64], text: &[u8]) -> Result<usize, Re
         &mut place,
         &mut length,
     );
-    check(number, || Refusal::writing(reason(number), place))?;
+    check(number, || not_written(number, place, words, text))?;
     Ok(length as usize)
 }
 
@@ -55,7 +56,7 @@ pub(crate) fn write(limit: Limit, words: &[u64], text: &[u8], out: &mut [u8]) ->
         &mut place,
         &mut length,
     );
-    check(number, || Refusal::writing(reason(number), place))?;
+    check(number, || not_written(number, place, words, text))?;
     Ok(length as usize)
 }
 
@@ -109,6 +110,21 @@ fn check(number: u64, refusal: impl FnOnce() -> Refusal) -> Result<(), Refusal> 
     match number {
         0 => Ok(()),
         _ => Err(refusal()),
+    }
+}
+
+/// Why a table is not written. The place of a 6 is a byte of the text where that is bad, and else a row, and the number does
+/// not tell which.
+///
+/// Up to where it is refused all texts are there and good. So if the place is a byte, its row says the same by itself; and if
+/// it is a row, then the text in which there happens to be a byte of this number is good, or is not all there.
+#[cold]
+fn not_written(number: u64, place: u64, words: &[u64], text: &[u8]) -> Refusal {
+    let bad_text = Refusal::bad_text(place);
+    let is_bad_text = || Rows::of(words, text).with_text_byte(place).is_some_and(|row| row.value() == Err(bad_text));
+    match reason(number) {
+        Reason::TextAmiss if is_bad_text() => bad_text,
+        reason => Refusal::writing(reason, place),
     }
 }
 

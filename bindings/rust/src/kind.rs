@@ -149,6 +149,15 @@ pub(crate) const fn children(kind: u64, number: u64) -> u64 {
     }
 }
 
+/// How many bytes of text a row says it has.
+pub(crate) const fn text_length(kind: u64, number: u64) -> u64 {
+    match Kind::from_code(kind) {
+        Some(Kind::Decimal128 | Kind::Uuid) => 16,
+        Some(Kind::Binary | Kind::String | Kind::Symbol) => number,
+        _ => 0,
+    }
+}
+
 impl fmt::Display for Kind {
     fn fmt(&self, f: &mut fmt::Formatter<'_>) -> fmt::Result {
         f.pad(self.name())

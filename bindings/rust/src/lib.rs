@@ -71,8 +71,9 @@
 //! ```
 //!
 //! Whatever is lent, each of them ends with success or with a [`Refusal`], one of fifteen reasons and a place; and after a
-//! refusal all lent memory holds what it held. docs/FORMAT.md of the repository says what a table is, which bytes it has and
-//! what is refused.
+//! refusal all lent memory holds what it held. In writing the place is a row, in reading an offset. Where a text is bad, it
+//! is the faulty byte: in writing a byte of the table's text, whose row is found by [`Table::row_of_text_byte`]; in reading
+//! its offset. docs/FORMAT.md of the repository says what a table is, which bytes it has and what is refused.
 //!
 //! # The level limit
 //!
@@ -205,6 +206,19 @@ fn write_whole(limit: call::Limit, words: &[u64], text: &[u8]) -> Result<Vec<u8>
     let mut out = vec![0; call::size(limit, words, text)?];
     call::write(limit, words, text, &mut out)?;
     Ok(out)
+}
+
+/// The row of a table that a byte of its text belongs to, if one has it: as [`Table::row_of_text_byte`], of lent memory.
+///
+/// ```
+/// let (words, text) = ([0xd0, 2, 0xb1, 2, 0xb1, 2], b"M4M\xc3"); // a list of two strings, the last cut off
+/// let refusal = afsungar::size(&words, text).unwrap_err();
+/// let row = refusal.text_byte().and_then(|byte| afsungar::row_of_text_byte(&words, text, byte));
+/// assert_eq!(row.map(|row| (row.index, row.text)), Some((2, &b"M\xc3"[..])));
+/// ```
+#[must_use]
+pub fn row_of_text_byte<'a>(words: &'a [u64], text: &'a [u8], byte: u64) -> Option<Row<'a>> {
+    Rows::of(words, text).with_text_byte(byte)
 }
 
 /// Measures the value at the start of `bytes`; what stands behind it is not looked at.

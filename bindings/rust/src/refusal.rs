@@ -4,8 +4,9 @@ use std::io;
 
 /// Why nothing was done: one of fifteen reasons, and where.
 ///
-/// In writing the place is a row, in reading an offset, both counted from 0: [`row`](Refusal::row) and
-/// [`offset`](Refusal::offset) tell which. All lent memory is as it was before the call.
+/// The place is counted from 0. In writing it is a row, but where a text is bad it is a byte of the text; in reading it is an
+/// offset. [`row`](Refusal::row), [`text_byte`](Refusal::text_byte) and [`offset`](Refusal::offset) each give it only where
+/// it is that. All lent memory is as it was before the call.
 ///
 /// ```
 /// use afsungar::{measure, size, Reason, Refusal};
@@ -15,6 +16,11 @@ use std::io;
 /// assert_eq!((refusal.number, refusal.row()), (5, Some(1)));
 /// assert_eq!(refusal.to_string(), "the number is not one that the row's kind allows (5) at row 1");
 ///
+/// let refusal = size(&[0xd0, 2, 0xb1, 2, 0xb1, 2], b"M4M\xc3").unwrap_err(); // a list of two strings, the last cut off
+/// assert_eq!(refusal, Refusal::bad_text(3));
+/// assert_eq!((refusal.number, refusal.row(), refusal.text_byte()), (6, None, Some(3)));
+/// assert_eq!(refusal.to_string(), "a string is not UTF-8 or a symbol not ASCII (6) at byte 3 of the text");
+///
 /// let refusal = measure(&[0xc0, 0x01, 0x01]).unwrap_err(); // a list that says it has a child, and has none
 /// assert_eq!(refusal, Refusal::reading(Reason::InputShort, 3));
 /// assert_eq!(refusal.to_string(), "a value goes on beyond its bytes (9) at offset 3");
@@ -23,16 +29,18 @@ use std::io;
 pub struct Refusal {
     /// The number of the reason, 1 to 15 (docs/FORMAT.md, 5.1).
     pub number: u8,
-    /// A row or an offset, from 0. For reasons that are of no one place (7, 8, 13, 14, 15) it is 0.
+    /// A row, a byte of the text or an offset, from 0. For reasons that are of no one place (7, 8, 13, 14, 15) it is 0.
     pub place: u64,
     reason: Reason,
     task: Task,
+    /// Whether the place is a byte of the text.
+    in_text: bool,
 }
 
 /// What was asked for when a refusal was given.
 #[derive(Clone, Copy, Debug, PartialEq, Eq, Hash)]
 pub enum Task {
-    /// Sizing or writing a table: the place is a row.
+    /// Sizing or writing a table: the place is a row, or a byte of the text.
     Writing,
     /// Measuring, reading or walking: the place is an offset.
     Reading,
@@ -61,7 +69,11 @@ pub enum Reason {
     ElementUnfit = 4,
     /// 5: the number is not one that its kind allows. For an array's also: it tells no kind, or none of the 25.
     NumberOutside = 5,
-    /// 6: the text left is too short for the row, or bad for it; text is left at the end.
+    /// 6: the text left is too short for the row; the row's text is bad, a string not UTF-8 or a symbol not ASCII; text is
+    /// left at the end.
+    ///
+    /// Where the text is bad, the place is the faulty byte ([`text_byte`](Refusal::text_byte)), else it is a
+    /// [`row`](Refusal::row). Too short comes before bad.
     TextAmiss = 6,
     /// 7: more than 1,048,576 bytes would be written.
     TooLong = 7,
@@ -75,6 +87,10 @@ pub enum Reason {
     /// 10: the format code is not one of the 40.
     CodeUnknown = 10,
     /// 11: the payload of a boolean, char, string or symbol is bad.
+    ///
+    /// The place of a string or symbol is its faulty byte, in arrays too. That of a boolean or char is its format code, and
+    /// in an array the code of the outermost one. The byte there does not always tell which it is: 0xe0 and 0xf0 are codes
+    /// of arrays, and begin sequences of UTF-8 as well.
     PayloadBad = 11,
     /// 12: a size is below its count field; bytes are left in a body; a map's count is odd.
     SizeAmiss = 12,
@@ -129,13 +145,19 @@ impl Refusal {
     /// A refusal of sizing or writing. Where the reason is of no one row, the place is 0.
     #[must_use]
     pub const fn writing(reason: Reason, row: u64) -> Self {
-        Refusal { number: reason.number(), place: row, reason, task: Task::Writing }
+        Refusal { number: reason.number(), place: row, reason, task: Task::Writing, in_text: false }
+    }
+
+    /// A refusal of sizing or writing with [`TextAmiss`](Reason::TextAmiss), because this byte of the text is bad.
+    #[must_use]
+    pub const fn bad_text(byte: u64) -> Self {
+        Refusal { in_text: true, ..Refusal::writing(Reason::TextAmiss, byte) }
     }
 
     /// A refusal of measuring, reading or walking. Where the reason is of no one offset, the place is 0.
     #[must_use]
     pub const fn reading(reason: Reason, offset: u64) -> Self {
-        Refusal { number: reason.number(), place: offset, reason, task: Task::Reading }
+        Refusal { number: reason.number(), place: offset, reason, task: Task::Reading, in_text: false }
     }
 
     /// Why.
@@ -151,13 +173,29 @@ impl Refusal {
     }
 
     /// The row where writing ended, from 0. It is the number of rows where a row is missing or text is left at the end.
+    ///
+    /// It is none where a text is bad: then [`text_byte`](Refusal::text_byte) has the place.
     #[must_use]
     pub fn row(&self) -> Option<u64> {
-        (self.task == Task::Writing && self.has_place()).then_some(self.place)
+        (self.task == Task::Writing && !self.in_text && self.has_place()).then_some(self.place)
+    }
+
+    /// The byte of the text where writing ended, because a string is not UTF-8 or a symbol not ASCII; from 0, in the text of
+    /// the whole table. [`Table::row_of_text_byte`](crate::Table::row_of_text_byte) and
+    /// [`row_of_text_byte`](crate::row_of_text_byte()) tell its row.
+    ///
+    /// It is the first byte at which, after correct sequences from the start of the string, none begins: of a sequence that
+    /// is broken or cut off, its first byte. Of a symbol it is the first byte that is not ASCII.
+    #[must_use]
+    pub fn text_byte(&self) -> Option<u64> {
+        self.in_text.then_some(self.place)
     }
 
     /// The offset of the value where reading ended, from 0: of its format code, or of where that would be. For all that
     /// stands in an array, at any depth, it is the array's own, and where arrays stand in arrays the outermost one's.
+    ///
+    /// Where a string or symbol is bad ([`PayloadBad`](Reason::PayloadBad)) it is the offset of the faulty byte, in arrays
+    /// too. Which byte that is, [`text_byte`](Refusal::text_byte) says.
     #[must_use]
     pub fn offset(&self) -> Option<u64> {
         (self.task == Task::Reading && self.has_place()).then_some(self.place)
@@ -182,7 +220,8 @@ impl fmt::Display for Refusal {
             }
             (Reason::ElementUnfit, Task::Reading) => "an array's element code is not allowed",
             (Reason::NumberOutside, _) => "the number is not one that the row's kind allows",
-            (Reason::TextAmiss, _) => "text is missing, left over or not valid for the row",
+            (Reason::TextAmiss, _) if self.in_text => "a string is not UTF-8 or a symbol not ASCII",
+            (Reason::TextAmiss, _) => "text is missing or left over",
             (Reason::TooLong, _) => "more than 1,048,576 bytes would be written",
             (Reason::OutputShort, _) => "the output is too short",
             (Reason::InputShort, _) => "a value goes on beyond its bytes",
@@ -194,9 +233,10 @@ impl fmt::Display for Refusal {
             (Reason::LimitOutside, _) => "the level limit has to be from 1 to 32",
         };
         write!(f, "{words} ({})", self.reason.number())?;
-        match (self.row(), self.offset()) {
-            (Some(row), _) => write!(f, " at row {row}"),
-            (_, Some(offset)) => write!(f, " at offset {offset}"),
+        match (self.row(), self.text_byte(), self.offset()) {
+            (Some(row), ..) => write!(f, " at row {row}"),
+            (_, Some(byte), _) => write!(f, " at byte {byte} of the text"),
+            (.., Some(offset)) => write!(f, " at offset {offset}"),
             _ => Ok(()),
         }
     }

@@ -3,7 +3,7 @@ use std::iter::FusedIterator;
 use std::str;
 
 use crate::call::{self, Limit};
-use crate::kind::{children, element_code};
+use crate::kind::{children, element_code, text_length};
 use crate::{Builder, Extent, Kind, Reason, Refusal, Value};
 
 /// A value as rows and text.
@@ -176,13 +176,38 @@ impl Table {
 
     /// Its rows in order.
     pub fn rows(&self) -> Rows<'_> {
-        Rows { cursor: Cursor { index: 0, words: &self.words, text: &self.text } }
+        Rows::of(&self.words, &self.text)
     }
 
     /// The first row, from which all others are reached by [`Row::children`].
     #[must_use]
     pub fn root(&self) -> Option<Row<'_>> {
         self.rows().next()
+    }
+
+    /// The row that a byte of the text belongs to, if one has it: where the writer refuses bad text, it names the byte
+    /// ([`Refusal::text_byte`]), and this is its row.
+    ///
+    /// ```
+    /// use afsungar::Table;
+    ///
+    /// let order = Table::build(|t| {
+    ///     t.map(|t| {
+    ///         t.symbol("size").string("Ø1.2");
+    ///         t.symbol("für").string("left");
+    ///     });
+    /// });
+    /// let refusal = order.to_bytes().unwrap_err();
+    /// assert_eq!(refusal.to_string(), "a string is not UTF-8 or a symbol not ASCII (6) at byte 10 of the text");
+    ///
+    /// let byte = refusal.text_byte().unwrap();
+    /// let row = order.row_of_text_byte(byte).unwrap();
+    /// assert_eq!((row.index, row.text), (3, "für".as_bytes()));
+    /// assert_eq!(byte as usize - row.text_start, 1); // the u with dots, which a symbol cannot have
+    /// ```
+    #[must_use]
+    pub fn row_of_text_byte(&self, byte: u64) -> Option<Row<'_>> {
+        self.rows().with_text_byte(byte)
     }
 
     /// What each row holds, in order. It is refused where a row is none of its kind, as [`Row::value`] is.
@@ -269,6 +294,8 @@ pub struct Row<'a> {
     pub number: u64,
     /// Its part of the text; less of it where the table has too little.
     pub text: &'a [u8],
+    /// Where that begins in the text of the table.
+    pub text_start: usize,
     behind: Cursor<'a>,
 }
 
@@ -280,7 +307,22 @@ impl<'a> Row<'a> {
     /// [`NumberOutside`](Reason::NumberOutside) or [`TextAmiss`](Reason::TextAmiss). Not so where the table was read: the
     /// writer's limits of 1,048,576 are not looked at, and an empty array need not tell the kind of its elements.
     pub fn value(&self) -> Result<Value<'a>, Refusal> {
-        self.typed().map_err(|reason| Refusal::writing(reason, self.index as u64))
+        self.typed().map_err(|reason| match self.faulty_byte() {
+            Some(byte) if reason == Reason::TextAmiss => Refusal::bad_text((self.text_start + byte) as u64),
+            _ => Refusal::writing(reason, self.index as u64),
+        })
+    }
+
+    /// Where its text is bad, if all of it is there.
+    fn faulty_byte(&self) -> Option<usize> {
+        if self.text.len() as u64 != text_length(self.kind, self.number) {
+            return None;
+        }
+        match Kind::from_code(self.kind)? {
+            Kind::String => str::from_utf8(self.text).err().map(|error| error.valid_up_to()),
+            Kind::Symbol => self.text.iter().position(|byte| !byte.is_ascii()),
+            _ => None,
+        }
     }
 
     fn typed(&self) -> Result<Value<'a>, Reason> {
@@ -432,6 +474,8 @@ struct Cursor<'a> {
     index: usize,
     words: &'a [u64],
     text: &'a [u8],
+    /// Where this text begins in that of the table.
+    text_start: usize,
 }
 
 impl<'a> Cursor<'a> {
@@ -439,15 +483,11 @@ impl<'a> Cursor<'a> {
         let [kind, number, words @ ..] = self.words else {
             return None;
         };
-        let length = match Kind::from_code(*kind) {
-            Some(Kind::Binary | Kind::String | Kind::Symbol) => *number as usize,
-            Some(Kind::Decimal128 | Kind::Uuid) => 16,
-            _ => 0,
-        };
+        let length = text_length(*kind, *number) as usize;
         let (text, left) = self.text.split_at(length.min(self.text.len()));
-        let index = self.index;
-        *self = Cursor { index: index + 1, words, text: left };
-        Some(Row { index, kind: *kind, number: *number, text, behind: *self })
+        let Cursor { index, text_start, .. } = *self;
+        *self = Cursor { index: index + 1, words, text: left, text_start: text_start + text.len() };
+        Some(Row { index, kind: *kind, number: *number, text, text_start, behind: *self })
     }
 }
 
@@ -456,6 +496,17 @@ impl<'a> Cursor<'a> {
 #[must_use]
 pub struct Rows<'a> {
     cursor: Cursor<'a>,
+}
+
+impl<'a> Rows<'a> {
+    pub(crate) fn of(words: &'a [u64], text: &'a [u8]) -> Self {
+        Rows { cursor: Cursor { index: 0, words, text, text_start: 0 } }
+    }
+
+    /// The row whose text has this byte, counted in the text of the table.
+    pub(crate) fn with_text_byte(mut self, byte: u64) -> Option<Row<'a>> {
+        self.find(|row| byte < (row.text_start + row.text.len()) as u64)
+    }
 }
 
 impl<'a> Iterator for Rows<'a> {
