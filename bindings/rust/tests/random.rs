@@ -174,10 +174,11 @@ impl Chance {
     fn damaged(&mut self, table: Table) -> Table {
         let (mut words, mut text) = table.into_parts();
         for _ in 0..self.below(3) {
-            match self.below(5) {
+            match self.below(6) {
                 0 => drop(words.pop()),
                 1 => drop(text.pop()),
                 2 => text.push(self.word() as u8),
+                3 => self.damage(&mut text),
                 _ if !words.is_empty() => {
                     let at = self.below(words.len());
                     words[at] = self.number();
@@ -381,11 +382,11 @@ fn bytes_by_chance() {
     assert!([4, 9, 10, 11, 12].iter().all(|&number| refused[number] > 10), "{refused:?}");
 }
 
-/// What is wrong within an array, at any depth, is refused at the place of the outermost one.
+/// What is wrong within an array, at any depth, is refused at the place of the outermost one; but a bad text at its own byte.
 #[test]
 fn damaged_arrays() {
     let mut chance = Chance(0x00af_5a17_9a6e_d005);
-    let (mut accepted, mut refused) = (0, [0u32; 16]);
+    let (mut accepted, mut refused, mut texts) = (0, [0u32; 16], 0);
     for _ in 0..30_000 {
         let depth = chance.below(3).min(1) * chance.below(LEVELS - 2);
         let kind = chance.kind(3, depth > 0, true);
@@ -412,19 +413,26 @@ fn damaged_arrays() {
             }
             Err(refusal) => {
                 refused[usize::from(refusal.number)] += 1;
-                assert_eq!(refusal.offset(), Some(start as u64), "{refusal} of {bytes:x?}");
+                let offset = refusal.offset().unwrap() as usize;
+                if refusal.reason() == Reason::PayloadBad && offset != start {
+                    assert!(offset > body && bytes[offset] >= 0x80, "{refusal} of {bytes:x?}");
+                    texts += 1;
+                } else {
+                    assert_eq!(offset, start, "{refusal} of {bytes:x?}");
+                }
             }
         }
     }
     assert!(accepted > 1000, "{accepted}");
     assert!([3, 4, 9, 10, 11, 12].iter().all(|&number| refused[number] > 0), "{refused:?}");
+    assert!(texts > 10 && texts + 10 < refused[11], "{texts} of {refused:?}");
 }
 
 /// Words and text by chance: no panic, writing as sizing says, and looking into the table is always possible.
 #[test]
 fn tables_by_chance() {
     let mut chance = Chance(0x00af_5a17_9a6e_d004);
-    let (mut accepted, mut refused) = (0, [0u32; 16]);
+    let (mut accepted, mut refused, mut texts) = (0, [0u32; 16], 0);
     for round in 0..60_000 {
         let table = if round % 3 == 0 { chance.rows() } else { chance.table() };
         let table = chance.damaged(table);
@@ -438,10 +446,17 @@ fn tables_by_chance() {
             }
             Err(refusal) => {
                 refused[usize::from(refusal.number)] += 1;
-                assert!(refusal.row().is_some_and(|row| row <= table.len() as u64));
+                if let Some(byte) = refusal.text_byte() {
+                    let row = table.row_of_text_byte(byte).unwrap();
+                    assert_eq!(row.value().err(), Some(refusal), "{table:?}");
+                    texts += 1;
+                } else {
+                    assert!(refusal.row().is_some_and(|row| row <= table.len() as u64));
+                }
             }
         }
     }
     assert!(accepted > 1000, "{accepted}");
     assert!([1, 2, 4, 5, 6].iter().all(|&number| refused[number] > 10), "{refused:?}");
+    assert!(texts > 10 && texts + 10 < refused[6], "{texts} of {refused:?}");
 }

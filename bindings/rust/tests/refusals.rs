@@ -22,12 +22,25 @@ fn each_form(due: Refusal) -> impl Iterator<Item = (Form, Refusal)> {
 
 /// Sizing and writing refuse alike, and the output stays.
 fn writing(words: &[u64], text: &[u8], reason: Reason, row: u64) {
-    let table = Table::from_parts(words.to_vec(), text.to_vec());
-    for (form, due) in each_form(Refusal::writing(reason, row)) {
-        assert_eq!(form.bytes_of(&table), Err(due), "{form:?} {table:?}");
-    }
     let due = Refusal::writing(reason, row);
+    refused(&Table::from_parts(words.to_vec(), text.to_vec()), due);
     assert_eq!((due.number, due.place, due.task()), (reason.number(), row, Task::Writing));
+}
+
+fn refused(table: &Table, due: Refusal) {
+    for (form, due) in each_form(due) {
+        assert_eq!(form.bytes_of(table), Err(due), "{form:?} {table:?}");
+    }
+}
+
+/// As `writing`, for text that is bad at this byte, of this row. The row by itself says the same.
+fn bad_text(words: &[u64], text: &[u8], byte: u64, row: usize) {
+    let table = Table::from_parts(words.to_vec(), text.to_vec());
+    let due = Refusal::bad_text(byte);
+    refused(&table, due);
+    assert_eq!((due.number, due.place, due.task()), (6, byte, Task::Writing));
+    let found = table.row_of_text_byte(byte).unwrap();
+    assert_eq!((found.index, found.value(), table.values()), (row, Err(due), Err(due)), "{table:?}");
 }
 
 /// Measuring and reading refuse alike, and words and text stay.
@@ -155,13 +168,91 @@ fn number_outside_5_in_arrays() {
 
 #[test]
 fn text_amiss_6() {
+    // Too short: at the row.
     writing(&[0xb1, 3], b"ab", Reason::TextAmiss, 0);
-    writing(&[0xb1, 2], &[0xc3, 0xc3], Reason::TextAmiss, 0);
-    writing(&[0xb3, 2], "Ø".as_bytes(), Reason::TextAmiss, 0);
     writing(&[0x98, 0], &[0; 15], Reason::TextAmiss, 0);
+    writing(&[0x94, 0], &[], Reason::TextAmiss, 0);
+    writing(&[0xd0, 2, 0xb1, 2, 0xb3, 1], b"ab", Reason::TextAmiss, 2);
+    // Left: at the number of rows.
     writing(&[0xb0, 1], b"ab", Reason::TextAmiss, 1);
-    // A sequence that is split over two rows is a fault of the first.
-    writing(&[0xd0, 2, 0xb1, 1, 0xb1, 1], "Ø".as_bytes(), Reason::TextAmiss, 1);
+    writing(&[0xd0, 2, 0xb0, 2, 0x40, 0], &[0xff; 9], Reason::TextAmiss, 3);
+}
+
+#[test]
+fn bad_text_6() {
+    bad_text(&[0xb1, 1], &[0x80], 0, 0);
+    bad_text(&[0xb1, 4], &[b'x', 0xc3, 0xc3, 0x98], 1, 0);
+    bad_text(&[0xb3, 4], "x\u{7f}Ø".as_bytes(), 2, 0);
+    // A symbol has no sequences: its fault is its first byte that is not ASCII, whatever stands behind it.
+    bad_text(&[0xb3, 5], &[b'x', 0xc3, 0x98, 0xff, b'x'], 1, 0);
+    // Cut off, overlong, a surrogate, above 10ffff, and bytes that begin nothing: at the first byte of each.
+    let faults: [&[u8]; 14] = [
+        &[0xc3],
+        &[0xe2, 0x82],
+        &[0xf0, 0x9f, 0x98],
+        &[0xc0, 0x80],
+        &[0xc1, 0xbf],
+        &[0xe0, 0x80, 0x80],
+        &[0xe0, 0x9f, 0xbf],
+        &[0xf0, 0x8f, 0xbf, 0xbf],
+        &[0xed, 0xa0, 0x80],
+        &[0xf4, 0x90, 0x80, 0x80],
+        &[0xf5, 0x80, 0x80, 0x80],
+        &[0xe2, 0x82, 0x41],
+        &[0xbf],
+        &[0xff],
+    ];
+    for fault in faults {
+        for before in ["", "M4", "Ø", "€\u{10ffff}"] {
+            let at = before.len();
+            for behind in [&b""[..], b"x"] {
+                let text = [before.as_bytes(), fault, behind].concat();
+                bad_text(&[0xb1, text.len() as u64], &text, at as u64, 0);
+            }
+            // Alone, behind other texts: the bytes of all of them count, whatever they hold.
+            let text = [&[0xff; 16][..], &[0x80; 3], b"M4", "Ø".as_bytes(), before.as_bytes(), fault].concat();
+            let words = [0xd0, 5, 0x98, 0, 0xb0, 3, 0xb3, 2, 0xb1, 2, 0xb1, (at + fault.len()) as u64];
+            bad_text(&words, &text, 16 + 3 + 2 + 2 + at as u64, 5);
+        }
+    }
+}
+
+#[test]
+fn bad_text_6_behind_and_in_other_rows() {
+    // A sequence that is split over two rows is a fault of the first. What is bad in the second does not count.
+    bad_text(&[0xd0, 2, 0xb1, 1, 0xb1, 1], "Ø".as_bytes(), 0, 1);
+    bad_text(&[0xd0, 3, 0xb1, 1, 0xb1, 2, 0xb3, 1], &[b'x', b'x', 0xc3, 0xff], 2, 2);
+    // The row that has the byte is not the one before it, whose text is empty.
+    bad_text(&[0xd0, 4, 0xb1, 0, 0xb3, 1, 0xb3, 0, 0xb1, 1], &[b'x', 0xc3], 1, 4);
+    // In arrays, maps, described values, and below them.
+    bad_text(&[0xf0, of(0xb1, 2), 0xb1, 2, 0xb1, 2], &[b'M', b'4', b'M', 0xff], 3, 2);
+    bad_text(&[0xf0, of(0xf0, 2), 0xf0, of(0xb3, 1), 0xb3, 1, 0xf0, of(0xb3, 1), 0xb3, 1], &[b'x', 0x80], 1, 4);
+    bad_text(&[0xd1, 2, 0xb3, 1, 0xf0, of(0xd0, 1), 0xd0, 1, 0xb1, 3], &[b'v', b'x', 0xe2, 0x82], 2, 4);
+    bad_text(&[0x00, 2, 0xb3, 2, 0x94, 0], &[[0xc3, 0x98].as_slice(), &[0; 16]].concat(), 0, 1);
+    // Behind a text that makes the table too long, which is found out last.
+    let text = [vec![b'x'; 1_048_576], vec![0xff]].concat();
+    bad_text(&[0xd0, 2, 0xb1, 1_048_576, 0xb3, 1], &text, 1_048_576, 2);
+}
+
+/// The number of a row is the number of a byte too, and that byte may be of any text.
+#[test]
+fn text_amiss_6_at_a_row_is_at_no_byte() {
+    // Too short comes before bad, even where what is there is bad already.
+    writing(&[0xb1, 2], &[0xff], Reason::TextAmiss, 0);
+    writing(&[0xd0, 2, 0xb1, 1, 0xb1, 3], &[b'x', 0xff], Reason::TextAmiss, 2);
+    writing(&[0xd0, 3, 0xb0, 1, 0xb3, 2, 0x98, 0], &[0xff; 2], Reason::TextAmiss, 2);
+    writing(&[0xd0, 2, 0xb0, 3, 0xb3, 1], &[0xff; 3], Reason::TextAmiss, 2);
+    // Bad text comes before a later row that is too short, and before text that is left.
+    bad_text(&[0xd0, 2, 0xb1, 3, 0xb1, 9], &[b'x', b'x', 0xff], 2, 1);
+    bad_text(&[0xb1, 2], &[b'x', 0xff, b'x'], 1, 0);
+    // Text left, with a byte of the number of rows that is no one's, or a binary's, or within a sequence.
+    writing(&[0xb1, 1], &[b'x', 0xff], Reason::TextAmiss, 1);
+    writing(&[0xb0, 2], &[0xff; 3], Reason::TextAmiss, 1);
+    writing(&[0xb1, 2], &[0xc3, 0x98, 0x98], Reason::TextAmiss, 1);
+    // A text of the greatest length is good by itself, though it makes the table too long.
+    let long = vec![b'x'; 1_048_576];
+    writing(&[0xd0, 2, 0xb1, 1_048_576, 0xb3, 1], &long, Reason::TextAmiss, 2);
+    writing(&[0xb1, 1_048_576], &[&long[..], &[0xff]].concat(), Reason::TextAmiss, 1);
 }
 
 #[test]
@@ -210,11 +301,57 @@ fn code_unknown_10() {
 fn payload_bad_11() {
     reading(&[0x56, 0x02], Reason::PayloadBad, 0);
     reading(&[0x73, 0, 0, 0xd8, 0], Reason::PayloadBad, 0);
-    reading(&[0xc0, 0x04, 0x01, 0xa1, 0x01, 0xc3], Reason::PayloadBad, 3);
-    reading(&[0xa3, 0x01, 0x80], Reason::PayloadBad, 0);
-    // In an array in a list in an array, and in an array in an array in a list: at the outermost array.
+    reading(&[0xc0, 0x04, 0x02, 0x40, 0x56, 0xff], Reason::PayloadBad, 4);
+    // In an array, in an array in a list in an array, and in an array in an array in a list: at the outermost array.
+    reading(&[0xc0, 0x08, 0x02, 0x40, 0xe0, 0x04, 0x02, 0x56, 0x01, 0xe0], Reason::PayloadBad, 4);
+    reading(&[0xe0, 0x06, 0x01, 0x73, 0x00, 0x11, 0x00, 0x00], Reason::PayloadBad, 0);
     reading(&[0xe0, 0x0a, 0x01, 0xc0, 0x07, 0x02, 0x40, 0xe0, 0x03, 0x01, 0x56, 0x02], Reason::PayloadBad, 0);
     reading(&[0xc0, 0x09, 0x01, 0xe0, 0x06, 0x01, 0xe0, 0x03, 0x01, 0x56, 0x02], Reason::PayloadBad, 3);
+}
+
+/// At the faulty byte, wherever it stands.
+#[test]
+fn bad_text_11() {
+    reading(&[0xa1, 0x01, 0xc3], Reason::PayloadBad, 2);
+    reading(&[0xa1, 0x03, 0xe2, 0x82, 0x41], Reason::PayloadBad, 2);
+    reading(&[0xa1, 0x04, b'x', 0xc3, 0x98, 0x98], Reason::PayloadBad, 5);
+    reading(&[0xb1, 0, 0, 0, 3, b'x', 0xf0, 0x9f, 0x98, 0x80], Reason::PayloadBad, 6);
+    reading(&[0xa3, 0x03, b'x', 0xc3, 0x98], Reason::PayloadBad, 3);
+    reading(&[0xb3, 0, 0, 0, 1, 0x80], Reason::PayloadBad, 5);
+    // In a list, behind other texts and a binary; in a map; in a described value.
+    let list = [0xc0, 0x0b, 0x03, 0xa1, 0x02, 0xc3, 0x98, 0xa0, 0x01, 0xff, 0xa1, 0x01, 0xc3];
+    reading(&list, Reason::PayloadBad, 12);
+    reading(&[0xc1, 0x06, 0x02, 0x40, 0xa3, 0x02, b'v', 0xff], Reason::PayloadBad, 7);
+    reading(&[0x00, 0xa3, 0x01, 0x80, 0x40], Reason::PayloadBad, 3);
+    // In an array, in arrays in an array, in a list in an array, and in an array in a list in an array.
+    reading(&[0xe0, 0x06, 0x02, 0xa1, 0x01, 0x61, 0x01, 0x80], Reason::PayloadBad, 7);
+    let arrays = [0xe0, 0x0b, 0x02, 0xe0, 0x03, 0x01, 0x56, 0x01, 0x04, 0x01, 0xa3, 0x01, 0xff];
+    reading(&arrays, Reason::PayloadBad, 12);
+    reading(&[0xc0, 0x0a, 0x01, 0xe0, 0x07, 0x01, 0xc0, 0x04, 0x01, 0xa1, 0x01, 0xe0], Reason::PayloadBad, 11);
+    let deep = [0xe0, 0x0b, 0x01, 0xc0, 0x08, 0x02, 0x40, 0xe0, 0x04, 0x01, 0xa1, 0x01, 0xf0];
+    reading(&deep, Reason::PayloadBad, 12);
+    // What looks like an array with a bad boolean, in a string.
+    reading(&[0xa1, 0x05, 0xe0, 0x03, 0x01, 0x56, 0x02], Reason::PayloadBad, 2);
+    // Too short comes before bad.
+    reading(&[0xa1, 0x02, 0xff], Reason::InputShort, 0);
+    reading(&[0xe0, 0x04, 0x01, 0xa1, 0x02, 0xff, 0xff], Reason::InputShort, 0);
+}
+
+#[test]
+fn bad_text_11_behind_other_values() {
+    // Null, string M4, and a list with a bad symbol: its place is counted from where the walker stays.
+    let bytes = [0x40, 0xa1, 0x02, 0x4d, 0x34, 0xc0, 0x05, 0x01, 0xa3, 0x02, b'v', 0xff];
+    for form in forms(16).into_iter().chain(forms(32)) {
+        let mut walker = form.walker(&bytes, 0);
+        assert_eq!((walker.step(), walker.step()), (Some(Ok(&bytes[..1])), Some(Ok(&bytes[1..5]))));
+        for _ in 0..2 {
+            assert_eq!(walker.step(), Some(Err(Refusal::reading(Reason::PayloadBad, 6))));
+            assert_eq!(walker.offset(), 5);
+        }
+        let mut values = form.values(&bytes);
+        assert_eq!(values.nth(2), Some(Err(Refusal::reading(Reason::PayloadBad, 6))));
+        assert_eq!((values.offset(), values.next()), (5, None));
+    }
 }
 
 #[test]
@@ -264,13 +401,19 @@ fn numbers_and_words() {
             assert_eq!(text.ends_with(" at offset 7"), placed && !writes, "{text}");
             assert_eq!(refusal.row(), (placed && writes).then_some(7));
             assert_eq!(refusal.offset(), (placed && !writes).then_some(7));
+            assert_eq!(refusal.text_byte(), None);
             assert_eq!(refusal.reason(), reason);
             seen.push(text);
         }
     }
+    let refusal = Refusal::bad_text(7);
+    assert_eq!((refusal.row(), refusal.text_byte(), refusal.offset()), (None, Some(7), None));
+    assert_eq!(refusal.reason(), Reason::TextAmiss);
+    assert_eq!(refusal.to_string(), "a string is not UTF-8 or a symbol not ASCII (6) at byte 7 of the text");
+    seen.push(refusal.to_string());
     seen.sort();
     seen.dedup();
-    assert_eq!(seen.len(), 15 + 10, "ten reasons have a place, and say a row or an offset");
+    assert_eq!(seen.len(), 15 + 10 + 1, "ten reasons have a place, and say a row or an offset; one may say a byte");
     assert_eq!(Reason::from_number(0), None);
     assert_eq!(Reason::from_number(16), None);
 }

@@ -492,7 +492,7 @@ fn the_writer_says_which_row() {
     refused(
         |t| {
             t.list(|t| {
-                t.null().symbol("Ø");
+                t.null().row(Kind::String.code(), 3, "M4");
             });
         },
         Reason::TextAmiss,
@@ -576,6 +576,72 @@ fn the_writer_says_which_row() {
         Reason::RowsAmiss,
         0,
     );
+}
+
+#[test]
+fn the_writer_says_which_byte_of_the_text() {
+    let table = Table::build(|t| {
+        t.list(|t| {
+            t.uuid([0xff; 16]).binary([0xff]).string("Ø1.2").array_of(["M4", ""]).null();
+            t.symbol("").symbol("ear-größe").symbol("Ø");
+        });
+    });
+    let byte = 16 + 1 + 5 + 2 + 6;
+    let refusal = table.to_bytes().unwrap_err();
+    assert_eq!(refusal, Refusal::bad_text(byte));
+    assert_eq!((table.size(), table.write_to(&mut [])), (Err(refusal), Err(refusal)));
+    assert_eq!((refusal.row(), refusal.offset(), refusal.text_byte()), (None, None, Some(byte)));
+    assert_eq!(table.values(), Err(refusal));
+
+    let row = table.row_of_text_byte(byte).unwrap();
+    assert_eq!((row.index, row.text, row.text_start), (9, "ear-größe".as_bytes(), 24));
+    assert_eq!(row.value(), Err(refusal));
+    assert_eq!(table.text()[byte as usize..][..2], *"ö".as_bytes());
+    assert_eq!(row.index, afsungar::row_of_text_byte(table.words(), table.text(), byte).unwrap().index);
+    // The children of a row say the same.
+    assert_eq!(table.root().unwrap().child_values(), Err(refusal));
+    let last = table.root().unwrap().children().last().unwrap();
+    assert_eq!((last.text_start, last.value()), (35, Err(Refusal::bad_text(35))));
+}
+
+/// Every byte, by hand: which row has it.
+fn rows_of_bytes(table: &Table) -> Vec<Option<usize>> {
+    let bytes = 0..table.text().len() as u64 + 2;
+    bytes.map(|byte| table.row_of_text_byte(byte).map(|row| row.index)).collect()
+}
+
+#[test]
+fn the_row_of_a_byte() {
+    let table = Table::build(|t| {
+        t.list(|t| {
+            t.string("").string("Ø").string("").symbol("").symbol("v").uint(7).binary([0xff, 0xff]).string("");
+        });
+    });
+    assert_eq!(rows_of_bytes(&table), [Some(2), Some(2), Some(5), Some(7), Some(7), None, None]);
+    assert_eq!(table.row_of_text_byte(u64::MAX).map(|row| row.index), None);
+
+    let sixteen = Table::build(|t| {
+        t.list(|t| {
+            t.uuid([7; 16]).decimal128([7; 16]).string("x");
+        });
+    });
+    let due: Vec<_> = [vec![Some(1); 16], vec![Some(2); 16], vec![Some(3), None, None]].concat();
+    assert_eq!(rows_of_bytes(&sixteen), due);
+    for row in sixteen.rows() {
+        assert_eq!(sixteen.text()[row.text_start..][..row.text.len()], *row.text);
+    }
+
+    // No text, no rows, or neither; numbers of rows that have no text; a lone word; an unknown kind.
+    assert_eq!(rows_of_bytes(&Table::from(Value::Ulong(u64::MAX))), [None, None]);
+    assert_eq!(rows_of_bytes(&Table::default()), [None, None]);
+    assert_eq!(rows_of_bytes(&Table::from_parts(vec![], vec![1])), [None, None, None]);
+    assert_eq!(
+        rows_of_bytes(&Table::from_parts(vec![0xff, 9, 0xb0, 1, 0xb0], vec![1, 2])),
+        [Some(1), None, None, None]
+    );
+    // Too little text: the row has what is there, and the rows behind it have none.
+    let short = Table::from_parts(vec![0xb1, u64::MAX, 0xb1, u64::MAX, 0x98, 0], vec![1, 2]);
+    assert_eq!(rows_of_bytes(&short), [Some(0), Some(0), None, None]);
 }
 
 #[test]

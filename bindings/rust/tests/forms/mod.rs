@@ -48,6 +48,29 @@ pub fn within_each<T: PartialEq + Debug>(
     (highest, enough)
 }
 
+/// The faulty byte of the first bad text, if all text is there up to its row's end.
+fn bad_text(words: &[u64], text: &[u8]) -> Option<u64> {
+    let mut start = 0;
+    for row in words.chunks_exact(2) {
+        let length = match row[0] {
+            0x94 | 0x98 => 16,
+            0xb0 | 0xb1 | 0xb3 => row[1] as usize,
+            _ => 0,
+        };
+        let part = text[start..].get(..length)?;
+        let fault = match row[0] {
+            0xb1 => std::str::from_utf8(part).err().map(|error| error.valid_up_to()),
+            0xb3 => part.iter().position(|&byte| byte >= 0x80),
+            _ => None,
+        };
+        if let Some(fault) = fault {
+            return Some((start + fault) as u64);
+        }
+        start += length;
+    }
+    None
+}
+
 impl Form {
     pub fn limit(self) -> u64 {
         match self {
@@ -62,10 +85,17 @@ impl Form {
     }
 
     pub fn size(self, words: &[u64], text: &[u8]) -> Result<usize, Refusal> {
-        match self {
+        let length = match self {
             Form::Plain => size(words, text),
             Form::Within(limit) => size_within(limit, words, text),
+        };
+        // A 6 has to say whether its place is a row or a byte of the text.
+        if let Some(refusal) = length.err().filter(|refusal| refusal.reason() == Reason::TextAmiss) {
+            let due =
+                bad_text(words, text).map_or(Refusal::writing(Reason::TextAmiss, refusal.place), Refusal::bad_text);
+            assert_eq!(refusal, due, "{words:x?} {text:x?}");
         }
+        length
     }
 
     pub fn write(self, words: &[u64], text: &[u8], out: &mut [u8]) -> Result<usize, Refusal> {
@@ -76,10 +106,24 @@ impl Form {
     }
 
     pub fn measure(self, bytes: &[u8]) -> Result<Extent, Refusal> {
-        match self {
+        let measured = |bytes: &[u8]| match self {
             Form::Plain => measure(bytes),
             Form::Within(limit) => measure_within(limit, bytes),
+        };
+        let extent = measured(bytes);
+        // The place of an 11 is the code of a boolean, a char or an array, or it is a byte of a text. 0x46 tells which: it is good in
+        // every text, and no code.
+        if let Some(refusal) = extent.err().filter(|refusal| refusal.reason() == Reason::PayloadBad) {
+            let at = refusal.place as usize;
+            let mended = [&bytes[..at], &[0x46], &bytes[at + 1..]].concat();
+            match measured(&mended) {
+                Err(no_code) if no_code == Refusal::reading(Reason::CodeUnknown, refusal.place) => {
+                    assert!([0x56, 0x73, 0xe0, 0xf0].contains(&bytes[at]), "{refusal} of {bytes:x?}");
+                }
+                other => assert!(bytes[at] >= 0x80 && other != extent, "{refusal} of {bytes:x?}"),
+            }
         }
+        extent
     }
 
     pub fn read(self, bytes: &[u8], words: &mut [u64], text: &mut [u8]) -> Result<Extent, Refusal> {
