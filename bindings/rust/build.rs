@@ -91,5 +91,7 @@ fn link(library: &Path) -> Outcome<()> {
     };
     println!("cargo:rustc-link-search=native={}", folder.display());
     println!("cargo:rustc-link-lib=static={name}");
+    // For the tests of the C header, which are linked with the same.
+    println!("cargo:rustc-env=AFSUNGAR_LINKED={}", library.display());
     Ok(())
 }
