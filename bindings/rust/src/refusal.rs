@@ -23,7 +23,7 @@ use std::io;
 ///
 /// let refusal = measure(&[0xc0, 0x01, 0x01]).unwrap_err(); // a list that says it has a child, and has none
 /// assert_eq!(refusal, Refusal::reading(Reason::InputShort, 3));
-/// assert_eq!(refusal.to_string(), "a value goes on beyond its bytes (9) at offset 3");
+/// assert_eq!(refusal.to_string(), "a value goes on beyond its bytes (9) at byte 3");
 /// ```
 #[derive(Clone, Copy, Debug, PartialEq, Eq, Hash)]
 pub struct Refusal {
@@ -236,7 +236,7 @@ impl fmt::Display for Refusal {
         match (self.row(), self.text_byte(), self.offset()) {
             (Some(row), ..) => write!(f, " at row {row}"),
             (_, Some(byte), _) => write!(f, " at byte {byte} of the text"),
-            (.., Some(offset)) => write!(f, " at offset {offset}"),
+            (.., Some(offset)) => write!(f, " at byte {offset}"),
             _ => Ok(()),
         }
     }

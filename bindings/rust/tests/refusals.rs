@@ -398,7 +398,7 @@ fn numbers_and_words() {
             let placed = !matches!(reason.number(), 7 | 8 | 13..=15);
             let writes = refusal.task() == Task::Writing;
             assert_eq!(text.ends_with(" at row 7"), placed && writes, "{text}");
-            assert_eq!(text.ends_with(" at offset 7"), placed && !writes, "{text}");
+            assert_eq!(text.ends_with(" at byte 7"), placed && !writes, "{text}");
             assert_eq!(refusal.row(), (placed && writes).then_some(7));
             assert_eq!(refusal.offset(), (placed && !writes).then_some(7));
             assert_eq!(refusal.text_byte(), None);
@@ -422,7 +422,7 @@ fn numbers_and_words() {
 fn as_errors() {
     let refusal = measure(&[0x46]).unwrap_err();
     let boxed: Box<dyn std::error::Error + Send + Sync> = refusal.into();
-    assert_eq!(boxed.to_string(), "the format code is not one of the 40 (10) at offset 0");
+    assert_eq!(boxed.to_string(), "the format code is not one of the 40 (10) at byte 0");
     let io = std::io::Error::from(refusal);
     assert_eq!(io.kind(), std::io::ErrorKind::InvalidData);
     let io = std::io::Error::from(size(&[], &[]).unwrap_err());

@@ -1,7 +1,7 @@
 //! The worked examples of docs/FORMAT.md, 10. Those of 32 and 33 levels name the limit 32; the others are tried within each.
 mod forms;
 
-use afsungar::{measure, measure_within, read_to_table, Builder, Extent, Kind, Reason, Refusal, Table, Value};
+use afsungar::{measure, measure_within, read_to_table, size, Builder, Extent, Kind, Reason, Refusal, Table, Value};
 use forms::within_each;
 
 /// Two hex digits a byte; spaces do not count.
@@ -206,6 +206,12 @@ fn the_longest_string() {
 }
 
 #[test]
+fn bad_and_missing_text() {
+    assert_eq!(size(&[0xd0, 2, 0xb1, 2, 0xb1, 3], &hex("61 62 78 c3 28")), Err(Refusal::bad_text(3)));
+    assert_eq!(size(&[0xd0, 2, 0xb1, 1, 0xb1, 3], &hex("61 ff")), Err(Refusal::writing(Reason::TextAmiss, 2)));
+}
+
+#[test]
 fn the_widths_of_an_array() {
     // The element code and the elements: a body of 254 bytes, then one of 255.
     let short = bytes_of(&Table::build(|t| {
@@ -247,6 +253,8 @@ fn read_and_refused() {
         ("e0 06 01 c0 03 01 40 40", Reason::SizeAmiss, 0),
         ("e0 04 01 c0 02 00 40", Reason::InputShort, 0),
         ("c0 09 01 e0 06 01 e0 03 01 56 02", Reason::PayloadBad, 3),
+        ("a1 03 e2 82 41", Reason::PayloadBad, 2),
+        ("e0 06 02 a1 01 61 01 80", Reason::PayloadBad, 7),
     ] {
         let (found, _) = within_each(|form| form.table_of(&hex(bytes)));
         assert_eq!(found, Err(Refusal::reading(reason, offset)), "{bytes}");
