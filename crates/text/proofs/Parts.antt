@@ -22,15 +22,15 @@ take-least (suc m) zero bs e = absurd (omega arith)
 take-least (suc m) (suc n) [] e = refl
 take-least (suc m) (suc n) (b ∷ bs) e = ap {B = List ℕ} (λ r. b ∷ r) (take-least m n bs (omega arith))
 
--- a part ends where the text does, or before
-pub part-ends : (text : List ℕ) (start count end : ℕ) → end ≡ start + min count (length text - start) → take (end - start) (drop start text) ≡ take count (drop start text)
-part-ends text start count end e = take-least (end - start) count (drop start text) (rw length-drop (omega arith))
+-- a part has so many bytes, or what is left of the text
+pub part-is : (text : List ℕ) (start count n : ℕ) → n ≡ min count (length text - start) → take (start + n - start) (drop start text) ≡ take count (drop start text)
+part-is text start count n e = take-least (start + n - start) count (drop start text) (rw length-drop (omega arith))
 
--- so long is it
-pub part-length : (text : List ℕ) (start count end : ℕ) → start ≤ length text → end ≡ start + min count (length text - start) → end - start ≡ length (take count (drop start text))
-part-length text start count end h e =
-    let i : end - start ≤ length (drop start text) = rw length-drop (omega arith) in
-    sym (length-take-le (end - start) (drop start text) i) ∙ ap length (part-ends text start count end e)
+pub part-length : (text : List ℕ) (start count n : ℕ) → n ≡ min count (length text - start) → n ≡ length (take count (drop start text))
+part-length text start count n e =
+    let i : start + n - start ≡ n = omega arith in
+    let h : n ≤ length (drop start text) = rw length-drop (omega arith) in
+    sym (length-take-le n (drop start text) h) ∙ ap length (rw i at (part-is text start count n e))
 
 -- the good bytes of text without a fault, and of text with one
 pub flawless-good : (k : ℕ) (t : List ℕ) → flaw k t ≡ flawless → goodLength k t ≡ length t

@@ -178,15 +178,13 @@ pub fn flaw_of(kind: u64, text: &[u8]) -> Fault
     Fault::Flawless
 }
 
-// The end of so many bytes from `start` on, or that of the text where it has fewer.
-fn end_of(length: usize, start: usize, count: usize) -> usize
-    requires { ⌜ start ≤ length ⌝ }
-    ensures { λ r. ⌜ r ≡ start + min count (length - start) ⌝ }
+fn lesser(a: usize, b: usize) -> usize
+    ensures { λ r. ⌜ r ≡ min a b ⌝ }
 {
-    if length - start < count {
-        return length;
+    if b < a {
+        return b;
     }
-    start + count
+    a
 }
 
 // Of so many bytes from `start` on, which are a row's text of that kind, how many are good: all, or those before the first fault.
@@ -201,9 +199,9 @@ pub fn good_length(kind: u64, text: &[u8], start: usize, count: usize) -> usize
     if text.len() < start {
         return 0;
     }
-    let end = end_of(text.len(), start, count);
-    match flaw_of(kind, &text[start..end]) {
-        Fault::Flawless => end - start,
+    let length = lesser(count, text.len() - start);
+    match flaw_of(kind, &text[start..start + length]) {
+        Fault::Flawless => length,
         Fault::At(place) => place,
     }
 }

@@ -18,10 +18,11 @@ pub enum IsArrayElement {
     OfKind(u64),
 }
 
-// A good row, or the number and the place of its refusal.
+// A good row; the number of its refusal; or the faulty byte of its text.
 pub enum Checked {
     Good(Style, u64, u64),
-    Bad(usize, usize),
+    Bad(usize),
+    Faulty(usize),
 }
 
 fn is_allowed(spot: IsArrayElement, kind: u64) -> bool
@@ -69,34 +70,34 @@ pub(crate) fn check_row(
     spot: IsArrayElement,
 ) -> Checked
     requires { ⌜ (2 * row ≤ length (now words)) × (from ≤ length (now letters)) ⌝ }
-    ensures { λ r. ⌜ (checkedIs r ≡ check levels (spotIs spot) row from (drop (2 * row) (now (words .entry))) (drop from (now (letters .entry)))) × Styled r ⌝ }
+    ensures { λ r. ⌜ (checkedIs row r ≡ check levels (spotIs spot) row from (drop (2 * row) (now (words .entry))) (drop from (now (letters .entry)))) × Styled r ⌝ }
 {
     let k = 2 * row;
     if words.len() - k < 2 {
-        return Checked::Bad(refusal::ROWS_AMISS, row);
+        return Checked::Bad(refusal::ROWS_AMISS);
     }
     let kind = words[k];
     let number = words[k + 1];
     let style = kind::style_of(kind);
     if !style.is_kind() {
-        return Checked::Bad(refusal::KIND_UNKNOWN, row);
+        return Checked::Bad(refusal::KIND_UNKNOWN);
     }
     if levels == 0 {
-        return Checked::Bad(refusal::TOO_DEEP, row);
+        return Checked::Bad(refusal::TOO_DEEP);
     }
     if !is_allowed(spot, kind) {
-        return Checked::Bad(refusal::ELEMENT_UNFIT, row);
+        return Checked::Bad(refusal::ELEMENT_UNFIT);
     }
     if !style.takes(kind, number) {
-        return Checked::Bad(outside(style, number), row);
+        return Checked::Bad(outside(style, number));
     }
     let count = style.letters(number) as usize;
     if letters.len() - from < count {
-        return Checked::Bad(refusal::TEXT_AMISS, row);
+        return Checked::Bad(refusal::TEXT_AMISS);
     }
     let good = text::good_length(kind, letters, from, count);
     if good < count {
-        return Checked::Bad(refusal::TEXT_AMISS, from + good);
+        return Checked::Faulty(from + good);
     }
     Checked::Good(style, kind, number)
 }

@@ -23,6 +23,7 @@ use crate::row::Checked;
 use crate::row::IsArrayElement;
 use standard::kind;
 use standard::kind::Style;
+use standard::refusal;
 use standard::refusal::Refusal;
 
 // What is behind values: the next row and its text, the bytes that they take, and the next mark.
@@ -295,7 +296,14 @@ fn size_row(words: &[u64], text: &[u8], levels: usize, c: Extent) -> Sized
     ensures { λ r. ⌜ r ≡ passed c (check levels any (c .row) (c .text) (drop (2 * (c .row)) (now (words .entry))) (drop (c .text) (now (text .entry)))) ⌝ }
 {
     match row::check_row(words, text, c.row, c.text, levels, IsArrayElement::False) {
-        Checked::Bad(number, place) => Sized::Refused(Refusal { number, place }),
+        Checked::Bad(number) => Sized::Refused(Refusal {
+            number,
+            place: c.row,
+        }),
+        Checked::Faulty(place) => Sized::Refused(Refusal {
+            number: refusal::TEXT_AMISS,
+            place,
+        }),
         Checked::Good(style, kind, number) => size_good(c, style, kind, number),
     }
 }
@@ -391,7 +399,7 @@ fn size_elements(
 // The element at `c`, by the checks of every row. A call of its own, as `size_children` is: what it takes of the stack is free again behind it.
 fn check_element(words: &[u64], text: &[u8], told: u64, levels: usize, c: Extent) -> Checked
     requires { ⌜ (2 * (c .row) ≤ length (now words)) × (c .text ≤ length (now text)) ⌝ }
-    ensures { λ r. ⌜ (checkedIs r ≡ check levels (like told) (c .row) (c .text) (drop (2 * (c .row)) (now (words .entry))) (drop (c .text) (now (text .entry)))) × Styled r ⌝ }
+    ensures { λ r. ⌜ (checkedIs (c .row) r ≡ check levels (like told) (c .row) (c .text) (drop (2 * (c .row)) (now (words .entry))) (drop (c .text) (now (text .entry)))) × Styled r ⌝ }
 {
     // named, as in `size_children`
     let checked = row::check_row(
@@ -447,8 +455,17 @@ fn size_items(
             c = close(marks, c, told, nested_head(told), e.size, e);
         } else {
             match check_element(words, text, told, levels, c) {
-                Checked::Bad(number, place) => {
-                    return Sized::Refused(Refusal { number, place });
+                Checked::Bad(number) => {
+                    return Sized::Refused(Refusal {
+                        number,
+                        place: c.row,
+                    });
+                }
+                Checked::Faulty(place) => {
+                    return Sized::Refused(Refusal {
+                        number: refusal::TEXT_AMISS,
+                        place,
+                    });
                 }
                 Checked::Good(style, _, number) => {
                     let letters = style.letters(number) as usize;

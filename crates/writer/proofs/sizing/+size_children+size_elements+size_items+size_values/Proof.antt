@@ -131,7 +131,7 @@ nested-finds t c = ⊎-elim (λ w. rw (w .5, w .6, w .0 .taken) (w .2 .ensures, 
 -- and one without
 leaf : (t : ℕ) (c : size-items-lts.After-item-width (items-claims t) (size-items-at t) size-items.Post size-items-Inv-loop size-items-μ-loop) →
     let a = c .before .before .before .before .before .before .before .before .before .before .before .before .before .args in let i = c .before .before .before .before .before .before .before .before .before .loop in let u = c .before .letters .result in Comes (a .words .now) (a .text .now) (a .levels) (like (a .told)) (a .start) (a .count) (a .marks .now) (past (i .c) u (c .item-width .result + u)) (i .left - 1) (i .marks)
-leaf t c = element-on (c .before .before .before .before .before .before .before .before .before .loop .inv) (c .before .before .before .before .before .before .before .before .loop-test .taken) _ _ (sym (c .before .before .before .before .before .check-element .ensures .0) ∙ ap checkedIs (c .before .before .before .style .given .1)) (rw (c .before .before .before .before .before .before .if1 .left) at (c .before .before .before .before .before .before .before .is-nested .ensures)) _ (subst Styled (c .before .before .before .style .given .1) (c .before .before .before .before .before .check-element .ensures .1)) _ _ (c .before .letters .ensures) (c .item-width .ensures)
+leaf t c = element-on (c .before .before .before .before .before .before .before .before .before .loop .inv) (c .before .before .before .before .before .before .before .before .loop-test .taken) _ _ (sym (c .before .before .before .before .before .check-element .ensures .0) ∙ ap (checkedIs (c .before .before .before .before .before .before .before .before .before .loop .c .row)) (c .before .before .before .style .given .1)) (rw (c .before .before .before .before .before .before .if1 .left) at (c .before .before .before .before .before .before .before .is-nested .ensures)) _ (subst Styled (c .before .before .before .style .given .1) (c .before .before .before .before .before .check-element .ensures .1)) _ _ (c .before .letters .ensures) (c .item-width .ensures)
 
 -- A value with children of their own codes
 
@@ -225,7 +225,10 @@ unfolding modeOf countIn kindIn
     -- is refused
     (λ c. search needs)
     (λ c. c .before .before .before .before .before .before .before .loop .inv .kept)
-    (λ c. comes-no (c .before .before .before .before .before .before .before .loop .inv) (c .before .before .before .before .before .before .loop-test .taken) _ _ (sym (c .before .before .before .check-element .ensures .0) ∙ ap checkedIs (c .before .number .given .1)))
+    (λ c. comes-no (c .before .before .before .before .before .before .before .loop .inv) (c .before .before .before .before .before .before .loop-test .taken) _ _ (sym (c .before .before .before .check-element .ensures .0) ∙ ap (checkedIs (c .before .before .before .before .before .before .before .loop .c .row)) (c .before .number .given .1)))
+    (λ c. search needs)
+    (λ c. c .before .before .before .before .before .before .before .loop .inv .kept)
+    (λ c. comes-no (c .before .before .before .before .before .before .before .loop .inv) (c .before .before .before .before .before .before .loop-test .taken) _ _ (sym (c .before .before .before .check-element .ensures .0) ∙ ap (checkedIs (c .before .before .before .before .before .before .before .loop .c .row)) (c .before .place .given .1)))
     -- or passed
     (λ c. search needs)
     (λ c κs. search needs)
