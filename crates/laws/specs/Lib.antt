@@ -11,6 +11,7 @@ pub mod Answers
 pub mod Complete
 pub mod Sound
 pub mod Unique
+pub mod Shown
 pub mod Levels
 pub mod Shift
 pub mod Appended

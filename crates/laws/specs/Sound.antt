@@ -74,7 +74,7 @@ module _ {P : ℕ → Tree → List ℕ → Type 0} (f : ℕ → ℕ → List �
   inside-sound (suc d) q (suc n) [] = no′
   inside-sound (suc d) q (suc n) (e ∷ r) = items-sound q (suc n) e r
 
-  coded-sound : (d : ℕ) → Sound (coded f d) (Coded P)
+  pub coded-sound : (d : ℕ) → Sound (coded f d) (Coded P)
   unfolding coded
   coded-sound zero p r = no′
   coded-sound (suc d) p [] = no′
