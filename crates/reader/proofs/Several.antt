@@ -5,7 +5,7 @@ use mathlib.Core.List.{List, [], _∷_, _++_}
 use mathlib.Core.Bool.{true, false}
 use native.Mathlib.Omega.{arith}
 use native.Mathlib.Nat.{add-zero, add-assoc}
-use lib.Dec.{T}
+use lib.Dec.{T, eqb}
 use lib.ListN.{length, drop, length-append, length-drop}
 use lib.Seq.{drop-at, drop-drop}
 use Rattle.standard.specs.Answer.{Answer, got, refuse, Place, at, byte, _>>=_, tooDeep, inputShort}
@@ -152,11 +152,11 @@ unfolding measured
 refused-of n (got (v, z)) f h = let z : _≡_ {A = ℕ} 0 1 = cc in absurd (omega arith)
 refused-of n (refuse x p) f h = record { number = x; place = p; isRefused = refl; isFault = h }
 
-pub tally-fits : (t : Tally) → t .fits ≡ true → tallyIs t ≡ fits (t .length) (t .rows) (t .text)
+pub tally-fits : (t : Tally) → t .fits ≡ true → tallyIs t ≡ fits (t .first) (t .second) (t .third)
 unfolding tallyIs
 tally-fits t e = rw e
 
-pub tally-refused : (t : Tally) → t .fits ≡ false → tallyIs t ≡ Refused (record { number = t .number; place = t .place; kept = t .kept })
+pub tally-refused : (t : Tally) → t .fits ≡ false → tallyIs t ≡ Refused (record { number = t .first; place = t .second; kept = eqb (t .third) 1 })
 unfolding tallyIs
 tally-refused t e = rw e
 

@@ -40,7 +40,7 @@ missed x (byte p) = faulty x p
 
 -- what was measured, as a struct says it
 unfoldable pub tallyIs : Tally → Counted
-tallyIs t = if (t .fits) (fits (t .length) (t .rows) (t .text)) (Refused (record { number = t .number; place = t .place; kept = t .kept }))
+tallyIs t = if (t .fits) (fits (t .first) (t .second) (t .third)) (Refused (record { number = t .first; place = t .second; kept = eqb (t .third) 1 }))
 
 -- and as the caller is told it
 unfoldable pub settledIs : Counted → Measured

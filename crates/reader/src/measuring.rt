@@ -52,16 +52,14 @@ enum Counted {
     Refused(Fault),
 }
 
-// The same as a struct: where it `fits` length, rows and text, else the refusal.
-// An enum goes through memory where branches that build it meet; the fields of a struct stay in registers.
+// The same as a struct: where it `fits` length, rows and text, else number and place of the refusal, and 1 where that is kept.
+// An enum goes through memory where branches that build it meet; the fields of a struct stay in registers, and the fewer they are
+// the less a level takes of the stack.
 struct Tally {
     fits: bool,
-    length: usize,
-    rows: usize,
-    text: usize,
-    number: usize,
-    place: usize,
-    kept: bool,
+    first: usize,
+    second: usize,
+    third: usize,
 }
 
 // Whether a value begins with its own code, or stands behind a code given before, as the elements of an array do.
@@ -377,21 +375,15 @@ fn told(m: Counted) -> Tally
     match m {
         Counted::Fits(e) => Tally {
             fits: true,
-            length: e.length,
-            rows: e.rows,
-            text: e.text,
-            number: 0,
-            place: 0,
-            kept: false,
+            first: e.length,
+            second: e.rows,
+            third: e.text,
         },
         Counted::Refused(f) => Tally {
             fits: false,
-            length: 0,
-            rows: 0,
-            text: 0,
-            number: f.number,
-            place: f.place,
-            kept: f.kept,
+            first: f.number,
+            second: f.place,
+            third: f.kept as usize,
         },
     }
 }
@@ -420,14 +412,14 @@ fn many(s: &[u8], head: Head, count: usize, place: usize, levels: usize) -> Coun
                     let t = payload(&s[from..], code, place + at, levels);
                     if !t.fits {
                         return Counted::Refused(Fault {
-                            number: t.number,
-                            place: t.place,
-                            kept: t.kept,
+                            number: t.first,
+                            place: t.second,
+                            kept: t.third == 1,
                         });
                     }
-                    at = from + t.length;
-                    rows += t.rows;
-                    text += t.text;
+                    at = from + t.first;
+                    rows += t.second;
+                    text += t.third;
                 }
             }
         }

@@ -194,8 +194,8 @@ passed t c =
 -- after the turn of any other value
 stepped : (t : ℕ) (c : many-lts.Else3 (many-claims t) (many-at t) many.Post many-Inv-loop many-μ-loop) →
     let a = c .before .before .before .before .before .before .before .before .before .before .before .before .before .before .args in let o = c .before .before .before .before .before .before .before .before .before .before .before .before .loop in let e = c .before .before .payload .result in
-    Going (a .s .now) (a .head) (a .levels) (a .count) (a .place) (c .before .before .before .before .before .before .before .before .code .given .0 .1 .0 + e .length) (o .rows + e .rows) (o .text + e .text) (o .left - 1)
-    × (o .at < c .before .before .before .before .before .before .before .before .code .given .0 .1 .0 + e .length)
+    Going (a .s .now) (a .head) (a .levels) (a .count) (a .place) (c .before .before .before .before .before .before .before .before .code .given .0 .1 .0 + e .first) (o .rows + e .second) (o .text + e .third) (o .left - 1)
+    × (o .at < c .before .before .before .before .before .before .before .before .code .given .0 .1 .0 + e .first)
 stepped t c = again _ _ _ _ _ _ _ _ _ (c .before .before .before .before .before .before .before .before .before .before .before .before .loop .inv) (c .before .before .before .before .before .before .before .before .before .before .before .loop-test .taken) _ _ (sym (c .before .before .before .before .before .before .before .before .before .before .code-at .ensures) ∙ c .before .before .before .before .before .before .before .before .code .given .1) _ (rw rest at (c .before .before .payload .ensures)) _ (tally-fits (c .before .before .payload .result) (not-false _ (c .if3 .left)))
 
 -- The body behind the fields of a compound and of an array
@@ -364,7 +364,7 @@ unfolding sure
     (λ c. omega (arith, coded t (c .before .before .before) .0))
     (λ c. omega (arith, c .before .before .before .before .before .before .before .before .before .loop .inv .inside))
     (λ c κs. let s = c .before .before .before .before .before .before .before .before .before .before .before .args .s .now in omega (arith, coded t (c .before .before .before .before), part-length (c .before .before .before .before .before .code .given .0 .1 .0) (length s) s (coded t (c .before .before .before .before) .0) (omega arith)))
-    (λ c. let a = c .before .before .before .before .before .before .before .before .before .before .before .before .before .before .args in let o = c .before .before .before .before .before .before .before .before .before .before .before .before .loop in let e = c .before .before .payload .result in fails (a .s .now) (a .head) (a .levels) (a .count) (a .place) (o .at) (o .rows) (o .text) (o .left) (o .inv) (c .before .before .before .before .before .before .before .before .before .before .before .loop-test .taken) _ _ (sym (c .before .before .before .before .before .before .before .before .before .before .code-at .ensures) ∙ c .before .before .before .before .before .before .before .before .code .given .1) _ (rw rest at (c .before .before .payload .ensures)) _ (tally-refused e (not-true _ (c .if3 .taken))))
+    (λ c. let a = c .before .before .before .before .before .before .before .before .before .before .before .before .before .before .before .args in let o = c .before .before .before .before .before .before .before .before .before .before .before .before .before .loop in let e = c .before .before .before .payload .result in fails (a .s .now) (a .head) (a .levels) (a .count) (a .place) (o .at) (o .rows) (o .text) (o .left) (o .inv) (c .before .before .before .before .before .before .before .before .before .before .before .before .loop-test .taken) _ _ (sym (c .before .before .before .before .before .before .before .before .before .before .before .code-at .ensures) ∙ c .before .before .before .before .before .before .before .before .before .code .given .1) _ (rw rest at (c .before .before .before .payload .ensures)) _ (tally-refused e (not-true _ (c .before .if3 .taken))))
     (λ c. omega (arith, stepped t (c .before) .0 .inside))
     (λ c. omega (arith, stepped t (c .before .before) .0 .inside, stepped t (c .before .before) .0 .height, c .before .before .before .before .before .before .before .before .before .before .before .before .before .before .before .before .pre .1))
     (λ c. omega (arith, stepped t (c .before .before .before) .0 .inside, stepped t (c .before .before .before) .0 .letters, c .before .before .before .before .before .before .before .before .before .before .before .before .before .before .before .before .before .pre .1))
