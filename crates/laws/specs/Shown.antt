@@ -197,7 +197,7 @@ faulty {r = r} x q (byte′ {q = o} {i = i} h s) e =
     let d : i ≡ q = omega arith in
     record { isPayload = sym a; shown = subst (Shown r) d s }
 
-text-shown : (l x q : ℕ) (r : List ℕ) → value l 0 r ≡ refuse x (byte q) → Faulty r x q
+pub text-shown : (l x q : ℕ) (r : List ℕ) → value l 0 r ≡ refuse x (byte q) → Faulty r x q
 text-shown l x q r e = faulty x q (value-shows l 0 r) e
 
 -- each refusal that a caller is told is at a value, or shows the faulty byte of a text

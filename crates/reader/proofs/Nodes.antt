@@ -25,6 +25,7 @@ use Rattle.standard.specs.declared.format_code.Entry.{Entry}
 use Rattle.standard.specs.declared.format_code.Layout as in-code
 use Rattle.standard.specs.declared.refusal.Refusal.{Refusal}
 use Rattle.reader.specs.declared.measuring.Counted.{Counted}
+use Rattle.reader.specs.declared.measuring.Counted.the-variants.{Refused}
 use Rattle.reader.specs.declared.measuring.Head.the-variants.{Own, Under}
 use Rattle.reader.specs.declared.measuring.Body.{Body}
 use Rattle.reader.specs.declared.measuring.Body.the-variants as body
@@ -102,7 +103,7 @@ framed w p s b n e h i j =
 
 -- fields that are refused, of a compound and of an array
 pub unframed : (l w k p : ℕ) (s : List ℕ) (b : Body) (x : Refusal) → bodyIs w s b ≡ fields p w s → b ≡ body.Bad x
-    → (refused (x .number) (x .place) ≡ measured (length s) (behind (below l) l k p s (compound w))) × (refused (x .number) (x .place) ≡ measured (length s) (behind (below l) l k p s (array w)))
+    → (Refused x ≡ measured (length s) (behind (below l) l k p s (compound w))) × (Refused x ≡ measured (length s) (behind (below l) l k p s (array w)))
 unfolding behind measured
 unframed l w k p s b x h i = let e : refuse (x .number) (at (x .place)) ≡ fields p w s = sym (ap (bodyIs w s) i) ∙ h in (rw (← e), rw (← e))
 

@@ -21,7 +21,8 @@ use Rattle.standard.specs.Read.{plain, ahead, leaf}
 use Rattle.standard.specs.Facts.{T-true, clean-nil}
 use Rattle.laws.specs.Texts.{all-good, some-bad}
 use Rattle.reader.specs.Entries.{judged, spelt}
-use Rattle.reader.specs.Measuring.{fits, refused, faulty, measured, block}
+use Rattle.reader.specs.Measuring.{fits, refused, measured, block}
+use Rattle.reader.specs.declared.measuring.Counted.the-variants.{Faulty}
 use Rattle.reader.proofs.Rooms.{cut-short, cut-got, back}
 
 -- numbers and texts that need no look
@@ -56,7 +57,7 @@ pub leaf-unfair : (s : Scalar) (k n p : ℕ) (t z r : List ℕ) → plain s p r 
 unfolding leaf measured
 leaf-unfair s k n p t z r e f = rw (e, f)
 
-pub leaf-unclean : (s : Scalar) (k n p : ℕ) (t z r : List ℕ) → plain s p r ≡ got (n, t, z) → fair k n ≡ true → clean k t ≡ false → measured (length r) (leaf s k p r) ≡ faulty payloadBad (p + 1 + ahead s + goodLength k t)
+pub leaf-unclean : (s : Scalar) (k n p : ℕ) (t z r : List ℕ) → plain s p r ≡ got (n, t, z) → fair k n ≡ true → clean k t ≡ false → measured (length r) (leaf s k p r) ≡ Faulty (p + 1 + ahead s + goodLength k t)
 unfolding leaf measured
 leaf-unclean s k n p t z r e f g = rw (e, f, g)
 
@@ -119,7 +120,7 @@ module _ (w k p n : ℕ) (r : List ℕ) (h : w ≤ length r) (e : n ≡ unbe (ta
     long : length (take n (drop w r)) ≡ n
     long = length-take-le n (drop w r) (rw length-drop i)
 
-    pub sized-bad : g < n → measured (length r) (leaf (sized w) k p r) ≡ faulty payloadBad (p + 1 + w + g)
+    pub sized-bad : g < n → measured (length r) (leaf (sized w) k p r) ≡ Faulty (p + 1 + w + g)
     unfolding ahead
     sized-bad o = leaf-unclean (sized w) k n p (take n (drop w r)) (drop n (drop w r)) r (sized-got i) (unjudged k n t) (some-bad k (take n (drop w r)) (omega (arith, long, f, o))) ∙ rw f
 

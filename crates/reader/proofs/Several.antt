@@ -5,7 +5,8 @@ use mathlib.Core.List.{List, [], _∷_, _++_}
 use mathlib.Core.Bool.{true, false}
 use native.Mathlib.Omega.{arith}
 use native.Mathlib.Nat.{add-zero, add-assoc}
-use lib.Dec.{T, eqb}
+use borrow.Author.Tests.{eq-eqb, ne-eqb}
+use lib.Dec.{T}
 use lib.ListN.{length, drop, length-append, length-drop}
 use lib.Seq.{drop-at, drop-drop}
 use Rattle.standard.specs.Answer.{Answer, got, refuse, Place, at, byte, _>>=_, tooDeep, inputShort}
@@ -22,9 +23,9 @@ use Rattle.laws.specs.Bounds.{small, element-some}
 use Rattle.laws.specs.Sound.{payload-sound}
 use Rattle.reader.specs.Measuring.{fits, refused, missed, measured, several, tallyIs, reads, reach, codeAt, Taking, Roomy, Plain}
 use Rattle.reader.specs.declared.measuring.Extent.{Extent}
-use Rattle.reader.specs.declared.measuring.Fault.{Fault}
+use Rattle.standard.specs.declared.refusal.Refusal.{Refusal}
 use Rattle.reader.specs.declared.measuring.Counted.{Counted}
-use Rattle.reader.specs.declared.measuring.Counted.the-variants.{Fits, Refused}
+use Rattle.reader.specs.declared.measuring.Counted.the-variants.{Fits, Refused, Faulty}
 use Rattle.reader.specs.declared.measuring.Tally.{Tally}
 use Rattle.reader.specs.declared.measuring.Head.{Head}
 use Rattle.reader.specs.declared.measuring.Head.the-variants.{Own, Under}
@@ -140,25 +141,33 @@ read-of n (got (v, z)) e h =
 read-of n (refuse x (at p)) e h = let z : _≡_ {A = ℕ} 0 1 = cc in absurd (omega arith)
 read-of n (refuse x (byte p)) e h = let z : _≡_ {A = ℕ} 0 1 = cc in absurd (omega arith)
 
--- a refusal: its number and its place
-pub record Missed (m : Answer (Tree × List ℕ)) (f : Fault) : Type 0 where
-  pub number : ℕ
-  pub place : Place
-  pub isRefused : m ≡ refuse number place
-  pub isFault : missed number place ≡ Refused f
-
-refused-of : (n : ℕ) (m : Answer (Tree × List ℕ)) (f : Fault) → measured n m ≡ Refused f → Missed m f
+refused-of : (n : ℕ) (m : Answer (Tree × List ℕ)) (f : Refusal) → measured n m ≡ Refused f → m ≡ refuse (f .number) (at (f .place))
 unfolding measured
 refused-of n (got (v, z)) f h = let z : _≡_ {A = ℕ} 0 1 = cc in absurd (omega arith)
-refused-of n (refuse x p) f h = record { number = x; place = p; isRefused = refl; isFault = h }
+refused-of n (refuse x (at p)) f h =
+    let i : f ≡ record { number = x; place = p } = cc in
+    rw i
+refused-of n (refuse x (byte p)) f h = let z : _≡_ {A = ℕ} 0 1 = cc in absurd (omega arith)
+
+faulty-of : (n : ℕ) (m : Answer (Tree × List ℕ)) (p : ℕ) → measured n m ≡ Faulty p → (x : ℕ) × (m ≡ refuse x (byte p))
+unfolding measured
+faulty-of n (got (v, z)) p h = let z : _≡_ {A = ℕ} 0 1 = cc in absurd (omega arith)
+faulty-of n (refuse x (at q)) p h = let z : _≡_ {A = ℕ} 0 1 = cc in absurd (omega arith)
+faulty-of n (refuse x (byte q)) p h =
+    let i : q ≡ p = cc in
+    (x, rw i)
 
 pub tally-fits : (t : Tally) → t .fits ≡ true → tallyIs t ≡ fits (t .first) (t .second) (t .third)
 unfolding tallyIs
 tally-fits t e = rw e
 
-pub tally-refused : (t : Tally) → t .fits ≡ false → tallyIs t ≡ Refused (record { number = t .first; place = t .second; kept = eqb (t .third) 1 })
+pub tally-refused : (t : Tally) → t .fits ≡ false → ¬ (t .third ≡ 1) → tallyIs t ≡ refused (t .first) (t .second)
 unfolding tallyIs
-tally-refused t e = rw e
+tally-refused t e h = rw (e, ne-eqb (t .third) 1 h)
+
+pub tally-faulty : (t : Tally) → t .fits ≡ false → t .third ≡ 1 → tallyIs t ≡ Faulty (t .second)
+unfolding tallyIs
+tally-faulty t e h = rw (e, eq-eqb (t .third) 1 h)
 
 -- The code of a value, and where what stands behind it begins
 
@@ -261,10 +270,13 @@ module _ (s : List ℕ) (h : Head) (l count p a i j left : ℕ) (g : Going s h l
     same : reads h l (p + a) (drop a s) ≡ payload l c (p + a) (drop b s)
     same = opened-same h l a c b (p + a) s (opened h l a (drop a s) c b e)
 
-    pub fails : (f : Fault) → m ≡ Refused f → Refused f ≡ several (length s) 0 0 (many (reads h l) count p s)
-    fails f k =
-        let o = refused-of (length (drop b s)) (payload l c (p + a) (drop b s)) f (sym d ∙ k) in
-        sym (o .isFault) ∙ sym (many-no (reads h l) (length s) i j left (p + a) (o .number) (o .place) (drop a s) n (same ∙ o .isRefused)) ∙ g .sum
+    pub fails : (f : Refusal) → m ≡ Refused f → Refused f ≡ several (length s) 0 0 (many (reads h l) count p s)
+    fails f k = sym (many-no (reads h l) (length s) i j left (p + a) (f .number) (at (f .place)) (drop a s) n (same ∙ refused-of (length (drop b s)) (payload l c (p + a) (drop b s)) f (sym d ∙ k))) ∙ g .sum
+
+    pub shows : (q : ℕ) → m ≡ Faulty q → Faulty q ≡ several (length s) 0 0 (many (reads h l) count p s)
+    shows q k =
+        let o = faulty-of (length (drop b s)) (payload l c (p + a) (drop b s)) q (sym d ∙ k) in
+        sym (many-no (reads h l) (length s) i j left (p + a) (o .0) (byte q) (drop a s) n (same ∙ o .1)) ∙ g .sum
 
     -- the turn goes on behind the value, and takes at least a byte
     pub again : (x : Extent) → m ≡ Fits x → Going s h l count p (b + x .length) (i + x .rows) (j + x .text) (left - 1) × (a < b + x .length)

@@ -2,10 +2,9 @@
 use Prim.Native.Nat.{ℕ, zero, suc, _+_, _-_, _^_, _≤_, _<_}
 use mathlib.Core.Path.{_≡_}
 use mathlib.Core.List.{List, [], _∷_}
-use mathlib.Core.Bool.{true, false}
 use lib.Dec.{T, eqb, leb}
 use lib.ListN.{length}
-use Rattle.standard.specs.Answer.{Answer, got, refuse, Place, at, byte, tooDeep, elementUnfit, inputShort, codeUnknown, sizeAmiss, rowsShort, textShort}
+use Rattle.standard.specs.Answer.{Answer, got, refuse, Place, at, byte, tooDeep, elementUnfit, inputShort, codeUnknown, payloadBad, sizeAmiss, rowsShort, textShort}
 use Rattle.standard.specs.Choose.{if}
 use Rattle.standard.specs.Codes.{whole, Layout, layoutOf, isCode, element}
 use Rattle.standard.specs.Tree.{Tree, Trees, tall, tall*, text, text*}
@@ -13,7 +12,7 @@ use Rattle.standard.specs.Read.{coded, payload}
 use Rattle.reader.specs.declared.measuring.Measured.{Measured}
 use Rattle.reader.specs.declared.measuring.Measured.the-variants as told
 use Rattle.reader.specs.declared.measuring.Counted.{Counted}
-use Rattle.reader.specs.declared.measuring.Counted.the-variants.{Fits, Refused}
+use Rattle.reader.specs.declared.measuring.Counted.the-variants.{Fits, Refused, Faulty}
 use Rattle.reader.specs.declared.measuring.Tally.{Tally}
 use Rattle.reader.specs.declared.measuring.Head.{Head}
 use Rattle.reader.specs.declared.measuring.Head.the-variants.{Own, Under}
@@ -27,25 +26,23 @@ use Rattle.reader.specs.declared.measuring.Element.the-variants.{Fit, Un
 abbrev pub fits : (length rows text : ℕ) → Counted
 fits n i j = Fits (record { length = n; rows = i; text = j })
 
--- refused at a value, and for a byte of text
 abbrev pub refused : (number place : ℕ) → Counted
-refused x p = Refused (record { number = x; place = p; kept = false })
+refused x p = Refused (record { number = x; place = p })
 
-abbrev pub faulty : (number place : ℕ) → Counted
-faulty x p = Refused (record { number = x; place = p; kept = true })
-
+-- a byte of text is refused with one number alone, which is left out
 abbrev pub missed : (number : ℕ) → Place → Counted
 missed x (at p) = refused x p
-missed x (byte p) = faulty x p
+missed x (byte p) = Faulty p
 
 -- what was measured, as a struct says it
 unfoldable pub tallyIs : Tally → Counted
-tallyIs t = if (t .fits) (fits (t .first) (t .second) (t .third)) (Refused (record { number = t .first; place = t .second; kept = eqb (t .third) 1 }))
+tallyIs t = if (t .fits) (fits (t .first) (t .second) (t .third)) (if (eqb (t .third) 1) (Faulty (t .second)) (refused (t .first) (t .second)))
 
 -- and as the caller is told it
 unfoldable pub settledIs : Counted → Measured
 settledIs (Fits e) = told.Fits e
-settledIs (Refused f) = told.Refused (record { number = f .number; place = f .place })
+settledIs (Refused f) = told.Refused f
+settledIs (Faulty p) = told.Refused (record { number = payloadBad; place = p })
 
 -- a value in a room of n bytes
 unfoldable pub measured : (room : ℕ) → Answer (Tree × List ℕ) → Counted
@@ -70,21 +67,25 @@ block n w t p = if (leb w n) (fits w 1 t) (refused inputShort p)
 unfoldable pub above : Counted → Counted
 above (Fits e) = fits (e .length) (e .rows + 1) (e .text)
 above (Refused f) = Refused f
+above (Faulty p) = Faulty p
 
 -- values that have to use up a body of n bytes, and the row above them, which takes w bytes
 unfoldable pub closed : (room whole place : ℕ) → Counted → Counted
 closed n w p (Fits e) = if (eqb (e .length) n) (fits w (e .rows + 1) (e .text)) (refused sizeAmiss p)
 closed n w p (Refused f) = Refused f
+closed n w p (Faulty q) = Faulty q
 
 -- a refusal has that place, but for that of a byte of text
 unfoldable pub heldAt : (place : ℕ) → Counted → Counted
 heldAt p (Fits e) = Fits e
-heldAt p (Refused f) = if (f .kept) (Refused f) (refused (f .number) p)
+heldAt p (Refused f) = refused (f .number) p
+heldAt p (Faulty q) = Faulty q
 
 -- there is room for one row more
 abbrev pub Roomy : Counted → Type 0
 Roomy (Fits e) = e .rows + 1 < 2 ^ 64
 Roomy (Refused f) = Unit {0}
+Roomy (Faulty p) = Unit {0}
 
 -- what is read behind a code, where so many levels are left
 abbrev pub below : (levels : ℕ) → (code place : ℕ) → List ℕ → Answer (Tree × List ℕ)

@@ -8,7 +8,6 @@ ghost use mathlib.Core.Bool.{true};
 ghost use Prim.Native.Nat.{ℕ, _+_, _^_, _≤_, _<_};
 ghost use lib.Dec.{T};
 ghost use lib.ListN.{length, take, drop};
-ghost use Rattle.standard.specs.Answer.{payloadBad};
 ghost use Rattle.standard.specs.Bytes.{unbe};
 ghost use Rattle.standard.specs.Codes as codes;
 ghost use Rattle.standard.specs.Codes.{layoutOf};
@@ -18,7 +17,7 @@ ghost use Rattle.standard.specs.Outcomes as outcome;
 ghost use Rattle.standard.specs.Outcomes.{levelDefault};
 ghost use Rattle.reader.specs.Entries.{narrow, sure, plainBelow, plainWidth, compoundWidth, compoundKind};
 ghost use Rattle.reader.specs.InCode.{measuredIs, bodyIs};
-ghost use Rattle.reader.specs.Measuring.{refused, faulty, settledIs, block, measured, several, contents, above, closed, heldAt, below, reads, reach, codeAt, elementOf, tallyIs, Taking, Roomy, Within, Plain};
+ghost use Rattle.reader.specs.Measuring.{refused, settledIs, block, measured, several, contents, above, closed, heldAt, below, reads, reach, codeAt, elementOf, tallyIs, Taking, Roomy, Within, Plain};
 use crate::number::narrow_at;
 use standard::format_code;
 use standard::format_code::Layout;
@@ -39,22 +38,16 @@ pub enum Measured {
     Refused(Refusal),
 }
 
-// A refusal inside a value, and whether its place is that of a byte of text, which it keeps in an array too.
-struct Fault {
-    number: usize,
-    place: usize,
-    kept: bool,
-}
-
 // What was measured of a value inside the bytes.
 enum Counted {
     Fits(Extent),
-    Refused(Fault),
+    Refused(Refusal),
+    // Bad text, by its faulty byte, whose place is the same in an array.
+    Faulty(usize),
 }
 
-// The same as a struct: where it `fits` length, rows and text, else number and place of the refusal, and 1 where that is kept.
-// An enum goes through memory where branches that build it meet; the fields of a struct stay in registers, and the fewer they are
-// the less a level takes of the stack.
+// The same as a struct: where it `fits` length, rows and text, else number and place of the refusal and 0, or for bad text 0, place
+// and 1. An enum goes through memory where branches that build it meet; the fields of a struct stay in registers.
 struct Tally {
     fits: bool,
     first: usize,
@@ -89,22 +82,7 @@ enum Element {
 fn refuse(number: usize, place: usize) -> Counted
     ensures { λ r. ⌜ r ≡ refused number place ⌝ }
 {
-    Counted::Refused(Fault {
-        number,
-        place,
-        kept: false,
-    })
-}
-
-// Refuses a text for its byte at that place.
-fn refuse_byte(place: usize) -> Counted
-    ensures { λ r. ⌜ r ≡ faulty payloadBad place ⌝ }
-{
-    Counted::Refused(Fault {
-        number: refusal::PAYLOAD_BAD,
-        place,
-        kept: true,
-    })
+    Counted::Refused(Refusal { number, place })
 }
 
 // A scalar of so many bytes, the last of them text.
@@ -162,7 +140,7 @@ fn sized(s: &[u8], width: usize, kind: u64, place: usize) -> Counted
     }
     let good = text::good_length(kind, s, width, count);
     if good < count {
-        return refuse_byte(place + 1 + width + good);
+        return Counted::Faulty(place + 1 + width + good);
     }
     Counted::Fits(Extent {
         length: width + count,
@@ -251,6 +229,7 @@ fn row_above(m: Counted) -> Counted
             text: e.text,
         }),
         Counted::Refused(f) => Counted::Refused(f),
+        Counted::Faulty(byte) => Counted::Faulty(byte),
     }
 }
 
@@ -271,6 +250,7 @@ fn done(m: Counted, room: usize, whole: usize, place: usize) -> Counted
             refuse(refusal::SIZE_AMISS, place)
         }
         Counted::Refused(f) => Counted::Refused(f),
+        Counted::Faulty(byte) => Counted::Faulty(byte),
     }
 }
 
@@ -280,12 +260,8 @@ fn held(m: Counted, place: usize) -> Counted
 {
     match m {
         Counted::Fits(e) => Counted::Fits(e),
-        Counted::Refused(f) => {
-            if f.kept {
-                return Counted::Refused(f);
-            }
-            refuse(f.number, place)
-        }
+        Counted::Refused(f) => refuse(f.number, place),
+        Counted::Faulty(own) => Counted::Faulty(own),
     }
 }
 
@@ -383,7 +359,13 @@ fn told(m: Counted) -> Tally
             fits: false,
             first: f.number,
             second: f.place,
-            third: f.kept as usize,
+            third: 0,
+        },
+        Counted::Faulty(byte) => Tally {
+            fits: false,
+            first: 0,
+            second: byte,
+            third: 1,
         },
     }
 }
@@ -411,11 +393,10 @@ fn many(s: &[u8], head: Head, count: usize, place: usize, levels: usize) -> Coun
                 } else {
                     let t = payload(&s[from..], code, place + at, levels);
                     if !t.fits {
-                        return Counted::Refused(Fault {
-                            number: t.first,
-                            place: t.second,
-                            kept: t.third == 1,
-                        });
+                        if t.third == 1 {
+                            return Counted::Faulty(t.second);
+                        }
+                        return refuse(t.first, t.second);
                     }
                     at = from + t.first;
                     rows += t.second;
@@ -472,7 +453,7 @@ fn compound(s: &[u8], width: usize, kind: u64, place: usize, levels: usize) -> C
     ensures { λ r. ⌜ r ≡ measured (length (now (s .entry))) (read.behind (below levels) levels kind place (now (s .entry)) (codes.compound width)) ⌝ }
 {
     match fields(s, width, place) {
-        Body::Bad(f) => refuse(f.number, f.place),
+        Body::Bad(f) => Counted::Refused(f),
         Body::Found { count, end } => {
             if !is_paired(kind, count) {
                 return refuse(refusal::SIZE_AMISS, place);
@@ -490,7 +471,7 @@ fn array(s: &[u8], width: usize, place: usize, levels: usize) -> Counted
     ensures { λ r. ⌜ ((k : ℕ) → r ≡ measured (length (now (s .entry))) (read.behind (below levels) levels k place (now (s .entry)) (codes.array width))) ⌝ }
 {
     match fields(s, width, place) {
-        Body::Bad(f) => refuse(f.number, f.place),
+        Body::Bad(f) => Counted::Refused(f),
         Body::Found { count, end } => {
             let from = width + width;
             let m = inside(&s[from..end], count, end, place + 1 + from, levels);
@@ -542,9 +523,10 @@ fn settled(m: Counted) -> Measured
 {
     match m {
         Counted::Fits(e) => Measured::Fits(e),
-        Counted::Refused(f) => Measured::Refused(Refusal {
-            number: f.number,
-            place: f.place,
+        Counted::Refused(f) => Measured::Refused(f),
+        Counted::Faulty(place) => Measured::Refused(Refusal {
+            number: refusal::PAYLOAD_BAD,
+            place,
         }),
     }
 }

@@ -23,7 +23,7 @@ use Rattle.reader.specs.declared.measuring.Head.the-variants.{Own, Under
 use Rattle.reader.proofs.Entries.{entry-layout, entry-sure, compound-some, compound-none, compound-narrow}
 use Rattle.reader.proofs.Scalars.{constant-is, small-is, raw-is}
 use Rattle.reader.proofs.Rooms.{rest, part-length}
-use Rattle.reader.proofs.Several.{tally-fits, tally-refused, plainly, run-roomy, opened-room, Going, begin, end, stops, fails, again}
+use Rattle.reader.proofs.Several.{tally-fits, tally-refused, tally-faulty, plainly, run-roomy, opened-room, Going, begin, end, stops, fails, shows, again}
 use Rattle.reader.proofs.Nodes.{behind-of, compound-of, unknown-is, scalar-is, described-is, Framed, framed, unframed, compound-odd, compound-is, array-is, inside-deep, inside-none, inside-empty, inside-some, items-no, fit-element, items-is}
 use Rattle.reader.proofs.measuring.array.Reads as array
 use Rattle.reader.proofs.measuring.array.Kinds as array-kinds
@@ -130,7 +130,7 @@ abbrev payload-below : ℕ → In 1 payload-kinds.ps
 payload-below t = and 1 payload-kinds.ps (falls 1 payload-kinds.ps _<_ μ-payload t) payload.Pre
 
 abbrev array-claims : ℕ → array-lts.Claims
-array-claims t = (fields-reads.Asked, fields-reads.Learnt, refuse-reads.Asked, refuse-reads.Learnt, inside-below t, inside.Post, held-reads.Asked, held-reads.Learnt)
+array-claims t = (fields-reads.Asked, fields-reads.Learnt, inside-below t, inside.Post, held-reads.Asked, held-reads.Learnt)
 
 abbrev behind-claims : ℕ → behind-lts.Claims
 behind-claims t = (
@@ -153,7 +153,7 @@ behind-claims t = (
 )
 
 abbrev compound-claims : ℕ → compound-lts.Claims
-compound-claims t = (fields-reads.Asked, fields-reads.Learnt, refuse-reads.Asked, refuse-reads.Learnt, is-paired-reads.Asked, is-paired-reads.Learnt, many-below t, many.Post, done-reads.Asked, done-reads.Learnt)
+compound-claims t = (fields-reads.Asked, fields-reads.Learnt, is-paired-reads.Asked, is-paired-reads.Learnt, refuse-reads.Asked, refuse-reads.Learnt, many-below t, many.Post, done-reads.Asked, done-reads.Learnt)
 
 abbrev inside-claims : ℕ → inside-lts.Claims
 inside-claims t = (refuse-reads.Asked, refuse-reads.Learnt, items-below t, items.Post)
@@ -242,7 +242,6 @@ unfolding sure
     array.Post
     (λ c κs. c .before .pre .1 .1)
     (λ c. search needs)
-    (λ c κs. search needs)
     (λ c. search needs)
     (λ c. let g = array-framed t c in omega arith)
     (λ c. let g = array-framed t c in omega arith)
@@ -252,7 +251,7 @@ unfolding sure
     (λ c. let g = array-framed t (c .before) in omega arith)
     (λ c κs. let g = array-framed t (c .before) in simp (length-take, length-drop) (omega arith))
     (λ c κs. search needs)
-    (λ c. let a = c .before .before .before .before .before .before .args in λ k. c .refuse .ensures ∙ unframed (a .levels) (a .width) k (a .place) (a .s .now) _ _ (c .before .before .before .before .fields .ensures .0) (c .before .before .f .given .1) .1)
+    (λ c. let a = c .before .before .before .before .before .args in λ k. unframed (a .levels) (a .width) k (a .place) (a .s .now) _ _ (c .before .before .before .fields .ensures .0) (c .before .f .given .1) .1)
     (λ c. let a = c .before .before .before .before .before .before .before .before .args in λ k. c .held .ensures ∙ array-is (a .levels) (a .width) k (a .place) _ _ (a .s .now) (array-framed t (c .before .before .before)) _ (c .before .inside .ensures)))
     (λ t. behind-lts.spec
     (behind-claims t)
@@ -296,11 +295,10 @@ unfolding sure
     compound.Post
     (λ c κs. c .before .pre .1 .1)
     (λ c. search needs)
-    (λ c κs. search needs)
     (λ c. search needs)
     (λ c κs. search needs)
     (λ c κs. search needs)
-    (λ c. let a = c .before .before .before .before .before .before .before .before .args in c .refuse2 .ensures ∙ compound-odd (a .levels) (a .width) (a .kind) (a .place) _ _ (a .s .now) (compound-framed t (c .before .before .before)) (sym (c .before .before .is-paired .ensures) ∙ not-true _ (c .before .if1 .taken)))
+    (λ c. let a = c .before .before .before .before .before .before .before .before .args in c .refuse .ensures ∙ compound-odd (a .levels) (a .width) (a .kind) (a .place) _ _ (a .s .now) (compound-framed t (c .before .before .before)) (sym (c .before .before .is-paired .ensures) ∙ not-true _ (c .before .if1 .taken)))
     (λ c. let g = compound-framed t (c .before .before) in omega arith)
     (λ c. let g = compound-framed t (c .before .before) in omega arith)
     (λ c. let g = compound-framed t (c .before .before) in omega arith)
@@ -310,7 +308,7 @@ unfolding sure
     (λ c κs. let g = compound-framed t (c .before .before .before) in simp (length-take, length-drop) (omega arith))
     (λ c. let g = compound-framed t (c .before .before .before .before) in omega arith)
     (λ c κs. let a = c .before .before .before .before .before .before .before .before .before .args in let g = compound-framed t (c .before .before .before .before) in run-roomy Own (a .levels) (c .before .before .before .before .before .count .given .0 .0) (a .place + 1 + (a .width + a .width)) (bodyIn (a .width) (c .before .before .before .before .before .count .given .0 .1 .0) (a .s .now)) _ (c .many .ensures) (g .few) (omega (arith, g .size)))
-    (λ c. let a = c .before .before .before .before .before .before .args in c .refuse .ensures ∙ unframed (a .levels) (a .width) (a .kind) (a .place) (a .s .now) _ _ (c .before .before .before .before .fields .ensures .0) (c .before .before .f .given .1) .0)
+    (λ c. let a = c .before .before .before .before .before .args in unframed (a .levels) (a .width) (a .kind) (a .place) (a .s .now) _ _ (c .before .before .before .fields .ensures .0) (c .before .f .given .1) .0)
     (λ c. let a = c .before .before .before .before .before .before .before .before .before .before .args in c .done .ensures ∙ compound-is (a .levels) (a .width) (a .kind) (a .place) _ _ (a .s .now) (compound-framed t (c .before .before .before .before .before)) _ (sym (c .before .before .before .before .is-paired .ensures) ∙ not-false _ (c .before .before .before .if1 .left)) (c .before .many .ensures)))
     (λ t. inside-lts.spec
     (inside-claims t)
@@ -364,7 +362,9 @@ unfolding sure
     (λ c. omega (arith, coded t (c .before .before .before) .0))
     (λ c. omega (arith, c .before .before .before .before .before .before .before .before .before .loop .inv .inside))
     (λ c κs. let s = c .before .before .before .before .before .before .before .before .before .before .before .args .s .now in omega (arith, coded t (c .before .before .before .before), part-length (c .before .before .before .before .before .code .given .0 .1 .0) (length s) s (coded t (c .before .before .before .before) .0) (omega arith)))
-    (λ c. let a = c .before .before .before .before .before .before .before .before .before .before .before .before .before .before .before .args in let o = c .before .before .before .before .before .before .before .before .before .before .before .before .before .loop in let e = c .before .before .before .payload .result in fails (a .s .now) (a .head) (a .levels) (a .count) (a .place) (o .at) (o .rows) (o .text) (o .left) (o .inv) (c .before .before .before .before .before .before .before .before .before .before .before .before .loop-test .taken) _ _ (sym (c .before .before .before .before .before .before .before .before .before .before .before .code-at .ensures) ∙ c .before .before .before .before .before .before .before .before .before .code .given .1) _ (rw rest at (c .before .before .before .payload .ensures)) _ (tally-refused e (not-true _ (c .before .if3 .taken))))
+    (λ c. let a = c .before .before .before .before .before .before .before .before .before .before .before .before .before .before .before .before .args in let o = c .before .before .before .before .before .before .before .before .before .before .before .before .before .before .loop in let e = c .before .before .before .before .payload .result in shows (a .s .now) (a .head) (a .levels) (a .count) (a .place) (o .at) (o .rows) (o .text) (o .left) (o .inv) (c .before .before .before .before .before .before .before .before .before .before .before .before .before .loop-test .taken) _ _ (sym (c .before .before .before .before .before .before .before .before .before .before .before .before .code-at .ensures) ∙ c .before .before .before .before .before .before .before .before .before .before .code .given .1) _ (rw rest at (c .before .before .before .before .payload .ensures)) _ (tally-faulty e (not-true _ (c .before .before .if3 .taken)) (c .if4 .taken)))
+    (λ c κs. search needs)
+    (λ c. let a = c .before .before .before .before .before .before .before .before .before .before .before .before .before .before .before .before .before .args in let o = c .before .before .before .before .before .before .before .before .before .before .before .before .before .before .before .loop in let e = c .before .before .before .before .before .payload .result in c .refuse2 .ensures ∙ fails (a .s .now) (a .head) (a .levels) (a .count) (a .place) (o .at) (o .rows) (o .text) (o .left) (o .inv) (c .before .before .before .before .before .before .before .before .before .before .before .before .before .before .loop-test .taken) _ _ (sym (c .before .before .before .before .before .before .before .before .before .before .before .before .before .code-at .ensures) ∙ c .before .before .before .before .before .before .before .before .before .before .before .code .given .1) _ (rw rest at (c .before .before .before .before .before .payload .ensures)) _ (tally-refused e (not-true _ (c .before .before .before .if3 .taken)) (c .before .if4 .left)))
     (λ c. omega (arith, stepped t (c .before) .0 .inside))
     (λ c. omega (arith, stepped t (c .before .before) .0 .inside, stepped t (c .before .before) .0 .height, c .before .before .before .before .before .before .before .before .before .before .before .before .before .before .before .before .pre .1))
     (λ c. omega (arith, stepped t (c .before .before .before) .0 .inside, stepped t (c .before .before .before) .0 .letters, c .before .before .before .before .before .before .before .before .before .before .before .before .before .before .before .before .before .pre .1))

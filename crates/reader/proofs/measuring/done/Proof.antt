@@ -16,5 +16,7 @@ done-spec =
     (λ c. rw (c .before .before .before .before .m .given .1) (simp (eq-eqb _ _ (c .before .if1 .taken))))
     (λ c κs. search needs)
     (λ c. search needs)
+    (λ c. search needs)
     (λ c. rw (c .before .before .before .before .m .given .1) (simp (ne-eqb _ _ (c .before .if1 .left)) (c .refuse .ensures)))
-    (λ c. rw (c .before .m2 .given .1)))
+    (λ c. rw (c .before .m2 .given .1))
+    (λ c. rw (c .before .m3 .given .1)))

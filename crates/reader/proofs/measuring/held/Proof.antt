@@ -11,7 +11,8 @@ held-spec =
     (tie.spec
     (λ c. search needs)
     (λ c. search needs)
-    (λ c. rw (c .before .before .m2 .given .1, c .if1 .taken))
     (λ c κs. search needs)
+    (λ c. search needs)
     (λ c. rw (c .before .m .given .1))
-    (λ c. rw (c .before .before .before .m2 .given .1, c .before .if1 .left) (c .refuse .ensures)))
+    (λ c. rw (c .before .before .m2 .given .1) (c .refuse .ensures))
+    (λ c. rw (c .before .m3 .given .1)))

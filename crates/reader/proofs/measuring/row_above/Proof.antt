@@ -13,5 +13,7 @@ row-above-spec =
     (λ c. search needs)
     (λ c. omega (arith, rw (c .before .before .m .given .1) at (c .before .before .before .before .pre)))
     (λ c. search needs)
+    (λ c. search needs)
     (λ c. rw (c .before .before .m .given .1))
-    (λ c. rw (c .before .m2 .given .1)))
+    (λ c. rw (c .before .m2 .given .1))
+    (λ c. rw (c .before .m3 .given .1)))

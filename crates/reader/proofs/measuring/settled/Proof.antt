@@ -11,5 +11,7 @@ settled-spec =
     (tie.spec
     (λ c. search needs)
     (λ c. search needs)
+    (λ c. search needs)
     (λ c. rw (c .before .m .given .1))
-    (λ c. rw (c .before .m2 .given .1)))
+    (λ c. rw (c .before .m2 .given .1))
+    (λ c. rw (c .before .m3 .given .1)))

@@ -24,10 +24,9 @@ sized-spec =
     (λ c. omega (arith, c .before .before .before .before .before .before .pre .0))
     (λ c. omega (arith, c .before .before .before .before .before .before .pre .0, c .before .before .before .before .if1 .left))
     (λ c. omega (arith, c .before .before .before .before .before .before .pre .0, c .before .before .before .before .if1 .left, c .before .before .if2 .left, c .if3 .taken))
-    (λ c κs. search needs)
     (λ c.
-    let a = c .before .before .before .before .before .before .before .args in
-    c .refuse-byte .ensures ∙ sym (sized-bad (a .width) (a .kind) (a .place) (c .before .before .before .before .narrow-at .result) (a .s .now) (c .before .before .before .before .before .if1 .left) (c .before .before .before .before .narrow-at .ensures .0) (c .before .before .before .if2 .left) (and-left (not (judged (a .kind))) (narrow (a .width)) (c .before .before .before .before .before .before .before .pre .1)) _ (c .before .before .good-length .ensures) (c .before .if3 .taken)))
+    let a = c .before .before .before .before .before .before .args in
+    sym (sized-bad (a .width) (a .kind) (a .place) (c .before .before .before .narrow-at .result) (a .s .now) (c .before .before .before .before .if1 .left) (c .before .before .before .narrow-at .ensures .0) (c .before .before .if2 .left) (and-left (not (judged (a .kind))) (narrow (a .width)) (c .before .before .before .before .before .before .pre .1)) _ (c .before .good-length .ensures) (c .if3 .taken)))
     (λ c. search needs)
     (λ c.
     let a = c .before .before .before .before .before .before .args in
