@@ -2,16 +2,15 @@
 use Prim.Native.Nat.{ℕ, zero, suc, _+_, _-_, _^_, _≤_, _<_}
 use mathlib.Core.Path.{_≡_, refl, sym, ap, _∙_}
 use mathlib.Core.List.{List, [], _∷_, _++_}
-use mathlib.Core.Bool.{true, false}
+use mathlib.Core.Bool.{Bool, true, false}
 use native.Mathlib.Omega.{arith}
 use native.Mathlib.Nat.{add-zero, add-assoc}
-use borrow.Author.Tests.{eq-eqb, ne-eqb}
-use lib.Dec.{T}
+use lib.Dec.{T, eqb}
 use lib.ListN.{length, drop, length-append, length-drop}
 use lib.Seq.{drop-at, drop-drop}
 use Rattle.standard.specs.Answer.{Answer, got, refuse, Place, at, byte, _>>=_, tooDeep, inputShort}
 use Rattle.standard.specs.Tree.{Tree, Trees, none, more, tall, tall*, text, text*}
-use Rattle.standard.specs.Choose.{lookup}
+use Rattle.standard.specs.Choose.{if, lookup}
 use Rattle.standard.specs.Bytes.{spell}
 use Rattle.standard.specs.Codes.{codes, entryOf, isCode, layoutOf, element}
 use Rattle.standard.specs.Kinds.{fair, flaw}
@@ -21,7 +20,7 @@ use Rattle.standard.specs.Read.{cut, plain, leaf, many, coded, payload}
 use Rattle.laws.specs.Answers.{Holds, yes′, no′, on, weaken, out}
 use Rattle.laws.specs.Bounds.{small, element-some}
 use Rattle.laws.specs.Sound.{payload-sound}
-use Rattle.reader.specs.Measuring.{fits, refused, missed, measured, several, tallyIs, reads, reach, codeAt, Taking, Roomy, Plain}
+use Rattle.reader.specs.Measuring.{fits, refused, missed, untoldIs, measured, several, tallyIs, reads, reach, codeAt, Taking, Roomy, Plain}
 use Rattle.reader.specs.declared.measuring.Extent.{Extent}
 use Rattle.standard.specs.declared.refusal.Refusal.{Refusal}
 use Rattle.reader.specs.declared.measuring.Counted.{Counted}
@@ -161,13 +160,9 @@ pub tally-fits : (t : Tally) → t .fits ≡ true → tallyIs t ≡ fits (t .fir
 unfolding tallyIs
 tally-fits t e = rw e
 
-pub tally-refused : (t : Tally) → t .fits ≡ false → ¬ (t .third ≡ 1) → tallyIs t ≡ refused (t .first) (t .second)
+pub tally-untold : (t : Tally) → t .fits ≡ false → tallyIs t ≡ untoldIs (t .first) (t .second) (t .third)
 unfolding tallyIs
-tally-refused t e h = rw (e, ne-eqb (t .third) 1 h)
-
-pub tally-faulty : (t : Tally) → t .fits ≡ false → t .third ≡ 1 → tallyIs t ≡ Faulty (t .second)
-unfolding tallyIs
-tally-faulty t e h = rw (e, eq-eqb (t .third) 1 h)
+tally-untold t e = rw e
 
 -- The code of a value, and where what stands behind it begins
 
@@ -270,13 +265,21 @@ module _ (s : List ℕ) (h : Head) (l count p a i j left : ℕ) (g : Going s h l
     same : reads h l (p + a) (drop a s) ≡ payload l c (p + a) (drop b s)
     same = opened-same h l a c b (p + a) s (opened h l a (drop a s) c b e)
 
-    pub fails : (f : Refusal) → m ≡ Refused f → Refused f ≡ several (length s) 0 0 (many (reads h l) count p s)
+    fails : (f : Refusal) → m ≡ Refused f → Refused f ≡ several (length s) 0 0 (many (reads h l) count p s)
     fails f k = sym (many-no (reads h l) (length s) i j left (p + a) (f .number) (at (f .place)) (drop a s) n (same ∙ refused-of (length (drop b s)) (payload l c (p + a) (drop b s)) f (sym d ∙ k))) ∙ g .sum
 
-    pub shows : (q : ℕ) → m ≡ Faulty q → Faulty q ≡ several (length s) 0 0 (many (reads h l) count p s)
+    shows : (q : ℕ) → m ≡ Faulty q → Faulty q ≡ several (length s) 0 0 (many (reads h l) count p s)
     shows q k =
         let o = faulty-of (length (drop b s)) (payload l c (p + a) (drop b s)) q (sym d ∙ k) in
         sym (many-no (reads h l) (length s) i j left (p + a) (o .0) (byte q) (drop a s) n (same ∙ o .1)) ∙ g .sum
+
+    -- the turn ends all with what does not fit
+    pub ends : (x q k : ℕ) → m ≡ untoldIs x q k → untoldIs x q k ≡ several (length s) 0 0 (many (reads h l) count p s)
+    ends x q k = by (eqb k 1)
+      where
+        by : (t : Bool) → m ≡ if t (Faulty q) (refused x q) → if t (Faulty q) (refused x q) ≡ several (length s) 0 0 (many (reads h l) count p s)
+        by true e = shows q e
+        by false e = fails (record { number = x; place = q }) e
 
     -- the turn goes on behind the value, and takes at least a byte
     pub again : (x : Extent) → m ≡ Fits x → Going s h l count p (b + x .length) (i + x .rows) (j + x .text) (left - 1) × (a < b + x .length)

@@ -34,9 +34,12 @@ abbrev pub missed : (number : ℕ) → Place → Counted
 missed x (at p) = refused x p
 missed x (byte p) = Faulty p
 
--- what was measured, as a struct says it
+-- what was measured, as a struct says it: what does not fit, and all
+abbrev pub untoldIs : (first second third : ℕ) → Counted
+untoldIs x p k = if (eqb k 1) (Faulty p) (refused x p)
+
 unfoldable pub tallyIs : Tally → Counted
-tallyIs t = if (t .fits) (fits (t .first) (t .second) (t .third)) (if (eqb (t .third) 1) (Faulty (t .second)) (refused (t .first) (t .second)))
+tallyIs t = if (t .fits) (fits (t .first) (t .second) (t .third)) (untoldIs (t .first) (t .second) (t .third))
 
 -- and as the caller is told it
 unfoldable pub settledIs : Counted → Measured

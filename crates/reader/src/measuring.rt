@@ -17,7 +17,7 @@ ghost use Rattle.standard.specs.Outcomes as outcome;
 ghost use Rattle.standard.specs.Outcomes.{levelDefault};
 ghost use Rattle.reader.specs.Entries.{narrow, sure, plainBelow, plainWidth, compoundWidth, compoundKind};
 ghost use Rattle.reader.specs.InCode.{measuredIs, bodyIs};
-ghost use Rattle.reader.specs.Measuring.{refused, settledIs, block, measured, several, contents, above, closed, heldAt, below, reads, reach, codeAt, elementOf, tallyIs, Taking, Roomy, Within, Plain};
+ghost use Rattle.reader.specs.Measuring.{refused, settledIs, untoldIs, block, measured, several, contents, above, closed, heldAt, below, reads, reach, codeAt, elementOf, tallyIs, Taking, Roomy, Within, Plain};
 use crate::number::narrow_at;
 use standard::format_code;
 use standard::format_code::Layout;
@@ -370,6 +370,16 @@ fn told(m: Counted) -> Tally
     }
 }
 
+// And back, of what does not fit.
+fn untold(first: usize, second: usize, third: usize) -> Counted
+    ensures { λ r. ⌜ r ≡ untoldIs first second third ⌝ }
+{
+    if third == 1 {
+        return Counted::Faulty(second);
+    }
+    refuse(first, second)
+}
+
 // So many values, one after another, where so many levels are left.
 // No count is believed: each turn refuses or takes a byte, for a value has its code, and the payload of an element is never empty.
 // What is left of the bytes is the loop's measure.
@@ -393,10 +403,7 @@ fn many(s: &[u8], head: Head, count: usize, place: usize, levels: usize) -> Coun
                 } else {
                     let t = payload(&s[from..], code, place + at, levels);
                     if !t.fits {
-                        if t.third == 1 {
-                            return Counted::Faulty(t.second);
-                        }
-                        return refuse(t.first, t.second);
+                        return untold(t.first, t.second, t.third);
                     }
                     at = from + t.first;
                     rows += t.second;

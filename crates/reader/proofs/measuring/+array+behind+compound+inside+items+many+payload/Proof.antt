@@ -23,7 +23,7 @@ use Rattle.reader.specs.declared.measuring.Head.the-variants.{Own, Under
 use Rattle.reader.proofs.Entries.{entry-layout, entry-sure, compound-some, compound-none, compound-narrow}
 use Rattle.reader.proofs.Scalars.{constant-is, small-is, raw-is}
 use Rattle.reader.proofs.Rooms.{rest, part-length}
-use Rattle.reader.proofs.Several.{tally-fits, tally-refused, tally-faulty, plainly, run-roomy, opened-room, Going, begin, end, stops, fails, shows, again}
+use Rattle.reader.proofs.Several.{tally-fits, tally-untold, plainly, run-roomy, opened-room, Going, begin, end, stops, ends, again}
 use Rattle.reader.proofs.Nodes.{behind-of, compound-of, unknown-is, scalar-is, described-is, Framed, framed, unframed, compound-odd, compound-is, array-is, inside-deep, inside-none, inside-empty, inside-some, items-no, fit-element, items-is}
 use Rattle.reader.proofs.measuring.array.Reads as array
 use Rattle.reader.proofs.measuring.array.Kinds as array-kinds
@@ -61,6 +61,7 @@ use Rattle.reader.proofs.measuring.refuse.Reads as refuse-reads
 use Rattle.reader.proofs.measuring.row_above.Reads as row-above-reads
 use Rattle.reader.proofs.measuring.sized.Reads as sized-reads
 use Rattle.reader.proofs.measuring.told.Reads as told-reads
+use Rattle.reader.proofs.measuring.untold.Reads as untold-reads
 use Rattle.reader.proofs.measuring.whole.Reads as whole-reads
 use Rattle.standard.proofs.format_code.entry_of.Reads as entry-of-reads
 use Rattle.reader.proofs.measuring.+array+behind+compound+inside+items+many+payload.{statement}
@@ -162,7 +163,7 @@ abbrev items-claims : ℕ → items-lts.Claims
 items-claims t = (element-of-reads.Asked, element-of-reads.Learnt, refuse-reads.Asked, refuse-reads.Learnt, many-below t, many.Post, done-reads.Asked, done-reads.Learnt)
 
 abbrev many-claims : ℕ → many-lts.Claims
-many-claims t = (code-at-reads.Asked, code-at-reads.Learnt, refuse-reads.Asked, refuse-reads.Learnt, plain-width-reads.Asked, plain-width-reads.Learnt, is-plain-reads.Asked, is-plain-reads.Learnt, payload-below t, payload.Post)
+many-claims t = (code-at-reads.Asked, code-at-reads.Learnt, refuse-reads.Asked, refuse-reads.Learnt, plain-width-reads.Asked, plain-width-reads.Learnt, is-plain-reads.Asked, is-plain-reads.Learnt, payload-below t, payload.Post, untold-reads.Asked, untold-reads.Learnt)
 
 abbrev payload-claims : ℕ → payload-lts.Claims
 payload-claims t = (compound-width-reads.Asked, compound-width-reads.Learnt, compound-kind-reads.Asked, compound-kind-reads.Learnt, compound-below t, compound.Post, told-reads.Asked, told-reads.Learnt, behind-below t, behind.Post)
@@ -362,9 +363,8 @@ unfolding sure
     (λ c. omega (arith, coded t (c .before .before .before) .0))
     (λ c. omega (arith, c .before .before .before .before .before .before .before .before .before .loop .inv .inside))
     (λ c κs. let s = c .before .before .before .before .before .before .before .before .before .before .before .args .s .now in omega (arith, coded t (c .before .before .before .before), part-length (c .before .before .before .before .before .code .given .0 .1 .0) (length s) s (coded t (c .before .before .before .before) .0) (omega arith)))
-    (λ c. let a = c .before .before .before .before .before .before .before .before .before .before .before .before .before .before .before .before .args in let o = c .before .before .before .before .before .before .before .before .before .before .before .before .before .before .loop in let e = c .before .before .before .before .payload .result in shows (a .s .now) (a .head) (a .levels) (a .count) (a .place) (o .at) (o .rows) (o .text) (o .left) (o .inv) (c .before .before .before .before .before .before .before .before .before .before .before .before .before .loop-test .taken) _ _ (sym (c .before .before .before .before .before .before .before .before .before .before .before .before .code-at .ensures) ∙ c .before .before .before .before .before .before .before .before .before .before .code .given .1) _ (rw rest at (c .before .before .before .before .payload .ensures)) _ (tally-faulty e (not-true _ (c .before .before .if3 .taken)) (c .if4 .taken)))
     (λ c κs. search needs)
-    (λ c. let a = c .before .before .before .before .before .before .before .before .before .before .before .before .before .before .before .before .before .args in let o = c .before .before .before .before .before .before .before .before .before .before .before .before .before .before .before .loop in let e = c .before .before .before .before .before .payload .result in c .refuse2 .ensures ∙ fails (a .s .now) (a .head) (a .levels) (a .count) (a .place) (o .at) (o .rows) (o .text) (o .left) (o .inv) (c .before .before .before .before .before .before .before .before .before .before .before .before .before .before .loop-test .taken) _ _ (sym (c .before .before .before .before .before .before .before .before .before .before .before .before .before .code-at .ensures) ∙ c .before .before .before .before .before .before .before .before .before .before .before .code .given .1) _ (rw rest at (c .before .before .before .before .before .payload .ensures)) _ (tally-refused e (not-true _ (c .before .before .before .if3 .taken)) (c .before .if4 .left)))
+    (λ c. let a = c .before .before .before .before .before .before .before .before .before .before .before .before .before .before .before .args in let o = c .before .before .before .before .before .before .before .before .before .before .before .before .before .loop in let e = c .before .before .before .payload .result in c .untold .ensures ∙ ends (a .s .now) (a .head) (a .levels) (a .count) (a .place) (o .at) (o .rows) (o .text) (o .left) (o .inv) (c .before .before .before .before .before .before .before .before .before .before .before .before .loop-test .taken) _ _ (sym (c .before .before .before .before .before .before .before .before .before .before .before .code-at .ensures) ∙ c .before .before .before .before .before .before .before .before .before .code .given .1) _ (rw rest at (c .before .before .before .payload .ensures)) (e .first) (e .second) (e .third) (tally-untold e (not-true _ (c .before .if3 .taken))))
     (λ c. omega (arith, stepped t (c .before) .0 .inside))
     (λ c. omega (arith, stepped t (c .before .before) .0 .inside, stepped t (c .before .before) .0 .height, c .before .before .before .before .before .before .before .before .before .before .before .before .before .before .before .before .pre .1))
     (λ c. omega (arith, stepped t (c .before .before .before) .0 .inside, stepped t (c .before .before .before) .0 .letters, c .before .before .before .before .before .before .before .before .before .before .before .before .before .before .before .before .before .pre .1))
