@@ -12,7 +12,7 @@ fn repository() -> PathBuf {
     Path::new(env!("CARGO_MANIFEST_DIR")).join("../..")
 }
 
-/// The program of a source file; none where there is no such compiler, or no header.
+/// The program of a source file; none where there is no C++ compiler, or no header. A C compiler has to be there: Rust links by it.
 fn program(compiler: &str, language: &[&str], name: &str) -> Option<PathBuf> {
     let folder = repository().join("bindings/c");
     let program = Path::new(env!("CARGO_TARGET_TMPDIR")).join(format!("{name}-{compiler}"));
@@ -23,7 +23,10 @@ fn program(compiler: &str, language: &[&str], name: &str) -> Option<PathBuf> {
     command.args(language).args(FLAGS).arg("-I").arg(&folder).arg(folder.join(format!("{name}.c")));
     command.args(["-x", "none", env!("AFSUNGAR_LINKED"), "-o"]).arg(&program);
     match command.output() {
-        Err(why) if why.kind() == ErrorKind::NotFound => None,
+        Err(why) if why.kind() == ErrorKind::NotFound && compiler == "c++" => {
+            eprintln!("not tried: there is no {compiler}");
+            None
+        }
         made => {
             succeeded(&made.unwrap());
             Some(program)
