@@ -1,8 +1,11 @@
-use std::convert::identity;
-use std::mem;
+use alloc::rc::Rc;
+use alloc::vec::Vec;
+use core::cell::RefCell;
+use core::convert::identity;
+use core::{fmt, mem};
 
 use crate::kind::children;
-use crate::{Element, Kind, Table, Value};
+use crate::{Element, Kind, Table, Timestamp, ToValue, Uuid, Value};
 
 /// Puts a table together, value by value; see [`Table::build`].
 ///
@@ -17,16 +20,26 @@ use crate::{Element, Kind, Table, Value};
 /// let map = Table::build(|t| {
 ///     t.map(|t| {
 ///         t.symbol("left").uint(2);
-///         t.symbol("sizes").array_of(["Ø1.2", "M4"]);
-///     });
+///         t.symbol("sizes").array_of(["Ø1.2", "M4"])
+///     })
 /// });
 /// assert_eq!(map.to_string(), "0 d1 4\n1 b3 4\n2 70 2\n3 b3 5\n4 f0 760209211394\n5 b1 5\n6 b1 2\n");
 /// assert_eq!(map.to_bytes()?.len(), 37);
 /// # Ok(())
 /// # }
 /// ```
-#[derive(Clone, Debug, Default)]
+///
+/// Each method gives the builder back, so that calls can be put in a row. A closure may return that, or whatever it likes.
+///
+/// What is given back is one more handle of the same builder, not a reference: a closure could not return that. So a builder
+/// stays in its thread; the table that it makes does not have to.
 pub struct Builder {
+    parts: Rc<RefCell<Parts>>,
+}
+
+/// What was put in. No call holds on to it while code of the caller runs.
+#[derive(Default)]
+struct Parts {
     words: Vec<u64>,
     text: Vec<u8>,
     /// Values put in at this level.
@@ -35,131 +48,154 @@ pub struct Builder {
     due: u64,
 }
 
+impl Parts {
+    fn row(&mut self, kind: u64, number: u64, text: &[u8]) {
+        self.enter(kind, number);
+        self.text.extend_from_slice(text);
+        self.due = self.due.saturating_add(children(kind, number));
+    }
+
+    fn enter(&mut self, kind: u64, number: u64) {
+        self.one();
+        self.words.extend([kind, number]);
+    }
+
+    /// One more value at this level, or one less due.
+    fn one(&mut self) {
+        if self.due > 0 {
+            self.due -= 1;
+        } else {
+            self.count += 1;
+        }
+    }
+}
+
 impl Builder {
     /// An empty one.
     #[must_use]
     pub fn new() -> Self {
-        Builder::default()
+        Builder { parts: Rc::default() }
     }
 
-    /// The table that was put together.
+    /// The table that was put together. The builder is then empty.
     #[must_use]
-    pub fn finish(self) -> Table {
-        Table::from_parts(self.words, self.text)
+    pub fn finish(&self) -> Table {
+        let parts = self.parts.take();
+        Table::from_parts(parts.words, parts.text)
     }
 
     /// Null.
-    pub fn null(&mut self) -> &mut Self {
+    pub fn null(&self) -> Self {
         self.push(Value::Null)
     }
 
     /// True or false.
-    pub fn boolean(&mut self, value: bool) -> &mut Self {
+    pub fn boolean(&self, value: bool) -> Self {
         self.push(value)
     }
 
     /// 8 bits, unsigned.
-    pub fn ubyte(&mut self, value: u8) -> &mut Self {
+    pub fn ubyte(&self, value: u8) -> Self {
         self.push(value)
     }
 
     /// 16 bits, unsigned.
-    pub fn ushort(&mut self, value: u16) -> &mut Self {
+    pub fn ushort(&self, value: u16) -> Self {
         self.push(value)
     }
 
     /// 32 bits, unsigned.
-    pub fn uint(&mut self, value: u32) -> &mut Self {
+    pub fn uint(&self, value: u32) -> Self {
         self.push(value)
     }
 
     /// 64 bits, unsigned.
-    pub fn ulong(&mut self, value: u64) -> &mut Self {
+    pub fn ulong(&self, value: u64) -> Self {
         self.push(value)
     }
 
     /// 8 bits, signed.
-    pub fn byte(&mut self, value: i8) -> &mut Self {
+    pub fn byte(&self, value: i8) -> Self {
         self.push(value)
     }
 
     /// 16 bits, signed.
-    pub fn short(&mut self, value: i16) -> &mut Self {
+    pub fn short(&self, value: i16) -> Self {
         self.push(value)
     }
 
     /// 32 bits, signed.
-    pub fn int(&mut self, value: i32) -> &mut Self {
+    pub fn int(&self, value: i32) -> Self {
         self.push(value)
     }
 
     /// 64 bits, signed.
-    pub fn long(&mut self, value: i64) -> &mut Self {
+    pub fn long(&self, value: i64) -> Self {
         self.push(value)
     }
 
     /// 32 bits, binary floating point.
-    pub fn float(&mut self, value: f32) -> &mut Self {
+    pub fn float(&self, value: f32) -> Self {
         self.push(value)
     }
 
     /// 64 bits, binary floating point.
-    pub fn double(&mut self, value: f64) -> &mut Self {
+    pub fn double(&self, value: f64) -> Self {
         self.push(value)
     }
 
     /// The 32 bits of a decimal floating point number.
-    pub fn decimal32(&mut self, bits: u32) -> &mut Self {
+    pub fn decimal32(&self, bits: u32) -> Self {
         self.push(Value::Decimal32(bits))
     }
 
     /// The 64 bits of a decimal floating point number.
-    pub fn decimal64(&mut self, bits: u64) -> &mut Self {
+    pub fn decimal64(&self, bits: u64) -> Self {
         self.push(Value::Decimal64(bits))
     }
 
     /// The 128 bits of a decimal floating point number, most significant byte first.
-    pub fn decimal128(&mut self, bytes: [u8; 16]) -> &mut Self {
+    pub fn decimal128(&self, bytes: [u8; 16]) -> Self {
         self.push(Value::Decimal128(bytes))
     }
 
     /// A Unicode scalar value.
-    pub fn char(&mut self, value: char) -> &mut Self {
+    pub fn char(&self, value: char) -> Self {
         self.push(value)
     }
 
     /// Milliseconds since 1970.
-    pub fn timestamp(&mut self, milliseconds: i64) -> &mut Self {
-        self.push(Value::Timestamp(milliseconds))
+    pub fn timestamp(&self, time: impl Into<Timestamp>) -> Self {
+        self.push(time.into())
     }
 
     /// A UUID.
-    pub fn uuid(&mut self, bytes: [u8; 16]) -> &mut Self {
-        self.push(Value::Uuid(bytes))
+    pub fn uuid(&self, uuid: impl Into<Uuid>) -> Self {
+        self.push(uuid.into())
     }
 
     /// Any bytes.
-    pub fn binary(&mut self, bytes: impl AsRef<[u8]>) -> &mut Self {
+    pub fn binary(&self, bytes: impl AsRef<[u8]>) -> Self {
         self.push(Value::Binary(bytes.as_ref()))
     }
 
     /// A string.
-    pub fn string(&mut self, text: impl AsRef<str>) -> &mut Self {
+    pub fn string(&self, text: impl AsRef<str>) -> Self {
         self.push(Value::String(text.as_ref()))
     }
 
     /// A symbol, which is ASCII: another one is refused when it is written ([`TextAmiss`](crate::Reason::TextAmiss)).
-    pub fn symbol(&mut self, text: impl AsRef<str>) -> &mut Self {
+    pub fn symbol(&self, text: impl AsRef<str>) -> Self {
         self.push(Value::Symbol(text.as_ref()))
     }
 
     /// A list of what `children` puts in.
-    pub fn list(&mut self, children: impl FnOnce(&mut Self)) -> &mut Self {
+    pub fn list<R>(&self, children: impl FnOnce(&Self) -> R) -> Self {
         self.parent(Kind::List, identity, children)
     }
 
     /// A map of what `entries` puts in: key, value, key, value, and so on.
-    pub fn map(&mut self, entries: impl FnOnce(&mut Self)) -> &mut Self {
+    pub fn map<R>(&self, entries: impl FnOnce(&Self) -> R) -> Self {
         self.parent(Kind::Map, identity, entries)
     }
 
@@ -197,7 +233,7 @@ impl Builder {
     /// });
     /// # assert_eq!(array.to_bytes().unwrap().len(), 21);
     /// ```
-    pub fn array(&mut self, element: Kind, elements: impl FnOnce(&mut Self)) -> &mut Self {
+    pub fn array<R>(&self, element: Kind, elements: impl FnOnce(&Self) -> R) -> Self {
         let number = |count| Value::Array { count: count as usize, element: Some(element) }.number();
         self.parent(Kind::Array, number, elements)
     }
@@ -215,7 +251,7 @@ impl Builder {
     /// # Ok(())
     /// # }
     /// ```
-    pub fn empty_array(&mut self, element: Kind) -> &mut Self {
+    pub fn empty_array(&self, element: Kind) -> Self {
         self.push(Value::Array { count: 0, element: Some(element) })
     }
 
@@ -232,12 +268,12 @@ impl Builder {
     /// # Ok(())
     /// # }
     /// ```
-    pub fn described(&mut self, both: impl FnOnce(&mut Self)) -> &mut Self {
+    pub fn described<R>(&self, both: impl FnOnce(&Self) -> R) -> Self {
         self.parent(Kind::Described, identity, both)
     }
 
     /// A list of these values.
-    pub fn list_of<'a, V: Into<Value<'a>>>(&mut self, children: impl IntoIterator<Item = V>) -> &mut Self {
+    pub fn list_of<V: ToValue>(&self, children: impl IntoIterator<Item = V>) -> Self {
         self.list(|t| t.extend(children))
     }
 
@@ -258,7 +294,7 @@ impl Builder {
     /// # Ok(())
     /// # }
     /// ```
-    pub fn array_of<'a, E: Element<'a>>(&mut self, elements: impl IntoIterator<Item = E>) -> &mut Self {
+    pub fn array_of<E: Element>(&self, elements: impl IntoIterator<Item = E>) -> Self {
         self.array(E::KIND, |t| t.extend(elements))
     }
 
@@ -279,10 +315,7 @@ impl Builder {
     /// # Ok(())
     /// # }
     /// ```
-    pub fn array_of_lists<'a, V: Into<Value<'a>>>(
-        &mut self,
-        lists: impl IntoIterator<Item = impl IntoIterator<Item = V>>,
-    ) -> &mut Self {
+    pub fn array_of_lists<V: ToValue>(&self, lists: impl IntoIterator<Item = impl IntoIterator<Item = V>>) -> Self {
         self.array_by(Kind::List, lists, |t, list| t.list_of(list))
     }
 
@@ -299,10 +332,10 @@ impl Builder {
     /// # Ok(())
     /// # }
     /// ```
-    pub fn array_of_maps<'a, K: Into<Value<'a>>, V: Into<Value<'a>>>(
-        &mut self,
+    pub fn array_of_maps<K: ToValue, V: ToValue>(
+        &self,
         maps: impl IntoIterator<Item = impl IntoIterator<Item = (K, V)>>,
-    ) -> &mut Self {
+    ) -> Self {
         self.array_by(Kind::Map, maps, |t, map| t.map_of(map))
     }
 
@@ -322,10 +355,7 @@ impl Builder {
     /// # Ok(())
     /// # }
     /// ```
-    pub fn array_of_arrays<'a, E: Element<'a>>(
-        &mut self,
-        arrays: impl IntoIterator<Item = impl IntoIterator<Item = E>>,
-    ) -> &mut Self {
+    pub fn array_of_arrays<E: Element>(&self, arrays: impl IntoIterator<Item = impl IntoIterator<Item = E>>) -> Self {
         self.array_by(Kind::Array, arrays, |t, array| t.array_of(array))
     }
 
@@ -339,10 +369,7 @@ impl Builder {
     /// });
     /// assert_eq!(map.rows().next().map(|row| row.count()), Some(4));
     /// ```
-    pub fn map_of<'a, K: Into<Value<'a>>, V: Into<Value<'a>>>(
-        &mut self,
-        entries: impl IntoIterator<Item = (K, V)>,
-    ) -> &mut Self {
+    pub fn map_of<K: ToValue, V: ToValue>(&self, entries: impl IntoIterator<Item = (K, V)>) -> Self {
         self.map(|t| {
             for (key, value) in entries {
                 t.push(key).push(value);
@@ -350,20 +377,27 @@ impl Builder {
         })
     }
 
-    /// One value, of Rust's own types or a [`Value`]. Behind one that has children, they are the values that come next.
-    pub fn push<'a>(&mut self, value: impl Into<Value<'a>>) -> &mut Self {
-        let value = value.into();
+    /// One value. Behind one that has children, they are the values that come next.
+    pub fn push(&self, value: impl ToValue) -> Self {
+        let value = value.to_value();
         self.row(value.kind().code(), value.number(), value.text())
+    }
+
+    /// These values, one after the other.
+    pub fn extend<V: ToValue>(&self, values: impl IntoIterator<Item = V>) -> Self {
+        for value in values {
+            self.push(value);
+        }
+        self.same()
     }
 
     /// A row as it stands, whatever it holds. Behind one that has children, they are the values that come next.
     ///
     /// The number of an array's row is that of [`Kind::array_number`].
-    pub fn row(&mut self, kind: u64, number: u64, text: impl AsRef<[u8]>) -> &mut Self {
-        self.enter(kind, number);
-        self.text.extend_from_slice(text.as_ref());
-        self.due = self.due.saturating_add(children(kind, number));
-        self
+    pub fn row(&self, kind: u64, number: u64, text: impl AsRef<[u8]>) -> Self {
+        let text = text.as_ref();
+        self.parts.borrow_mut().row(kind, number, text);
+        self.same()
     }
 
     /// The value of another table, with all that is below it.
@@ -381,20 +415,21 @@ impl Builder {
     /// });
     /// assert_eq!(twice.rows().map(|row| row.count()).collect::<Vec<_>>(), [2, 2, 0, 0, 2, 0, 0]);
     /// ```
-    pub fn table(&mut self, table: &Table) -> &mut Self {
-        self.one();
-        self.words.extend_from_slice(table.words());
-        self.text.extend_from_slice(table.text());
-        self
+    pub fn table(&self, table: &Table) -> Self {
+        let mut parts = self.parts.borrow_mut();
+        parts.one();
+        parts.words.extend_from_slice(table.words());
+        parts.text.extend_from_slice(table.text());
+        self.same()
+    }
+
+    /// One more handle of this builder.
+    fn same(&self) -> Self {
+        Builder { parts: Rc::clone(&self.parts) }
     }
 
     /// An array with what `put` makes of each item.
-    fn array_by<T>(
-        &mut self,
-        element: Kind,
-        items: impl IntoIterator<Item = T>,
-        put: impl Fn(&mut Self, T) -> &mut Self,
-    ) -> &mut Self {
+    fn array_by<T>(&self, element: Kind, items: impl IntoIterator<Item = T>, put: impl Fn(&Self, T) -> Self) -> Self {
         self.array(element, |t| {
             for item in items {
                 put(t, item);
@@ -403,39 +438,34 @@ impl Builder {
     }
 
     /// A row with what `children` puts in. Its number is made of how many they are.
-    fn parent(&mut self, kind: Kind, number: impl FnOnce(u64) -> u64, children: impl FnOnce(&mut Self)) -> &mut Self {
-        self.enter(kind.code(), 0);
-        let row = self.words.len();
-        let outer = (mem::take(&mut self.count), mem::take(&mut self.due));
+    fn parent<R>(&self, kind: Kind, number: impl FnOnce(u64) -> u64, children: impl FnOnce(&Self) -> R) -> Self {
+        let (row, outer) = {
+            let mut parts = self.parts.borrow_mut();
+            parts.enter(kind.code(), 0);
+            (parts.words.len() - 1, (mem::take(&mut parts.count), mem::take(&mut parts.due)))
+        };
         children(self);
-        // The closure may have put another builder in this one's place, so the row may be gone.
-        if let Some(word) = row.checked_sub(1).and_then(|at| self.words.get_mut(at)) {
-            *word = number(self.count);
+        let mut parts = self.parts.borrow_mut();
+        let count = mem::replace(&mut parts.count, outer.0);
+        parts.due = outer.1;
+        // The closure may have finished the builder, so the row may be gone.
+        if let Some(word) = parts.words.get_mut(row) {
+            *word = number(count);
         }
-        (self.count, self.due) = outer;
-        self
-    }
-
-    fn enter(&mut self, kind: u64, number: u64) {
-        self.one();
-        self.words.extend([kind, number]);
-    }
-
-    /// One more value at this level, or one less due.
-    fn one(&mut self) {
-        if self.due > 0 {
-            self.due -= 1;
-        } else {
-            self.count += 1;
-        }
+        self.same()
     }
 }
 
-impl<'a, V: Into<Value<'a>>> Extend<V> for Builder {
-    fn extend<I: IntoIterator<Item = V>>(&mut self, values: I) {
-        for value in values {
-            self.push(value);
-        }
+impl Default for Builder {
+    fn default() -> Self {
+        Builder::new()
+    }
+}
+
+impl fmt::Debug for Builder {
+    fn fmt(&self, f: &mut fmt::Formatter<'_>) -> fmt::Result {
+        let parts = self.parts.borrow();
+        f.debug_struct("Builder").field("words", &parts.words).field("text", &parts.text).finish_non_exhaustive()
     }
 }
 

@@ -6,8 +6,7 @@
 //! SAFETY, for all ten: each pointer and length are those of a slice or a reference that lives through the call, so no
 //! pointer is null or unaligned; what is lent to be filled is lent as `&mut`, so it overlaps nothing. The library keeps no
 //! pointer and no state.
-use crate::table::Rows;
-use crate::{raw, Extent, Reason, Refusal};
+use crate::{raw, Extent, Reason, Refusal, Rows};
 
 /// The level limit that a call names, if it names one.
 pub(crate) type Limit = Option<u64>;
@@ -130,5 +129,5 @@ fn not_written(number: u64, place: u64, words: &[u64], text: &[u8]) -> Refusal {
 
 /// The library gives no other number than 1 to 15, so the last of them is taken for all others.
 fn reason(number: u64) -> Reason {
-    Reason::ALL.into_iter().find(|reason| u64::from(reason.number()) == number).unwrap_or(Reason::LimitOutside)
+    u8::try_from(number).ok().and_then(Reason::from_number).unwrap_or(Reason::LimitOutside)
 }

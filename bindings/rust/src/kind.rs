@@ -1,4 +1,4 @@
-use std::fmt;
+use core::fmt;
 
 macro_rules! kinds {
     ($($(#[$doc:meta])* $kind:ident = $code:literal, $name:literal;)*) => {
@@ -97,6 +97,18 @@ impl Kind {
     #[must_use]
     pub const fn code(self) -> u64 {
         self as u64
+    }
+
+    /// Its name with the article before it: an array, a uint.
+    pub(crate) fn with_article(self) -> impl fmt::Display {
+        struct WithArticle(Kind);
+        impl fmt::Display for WithArticle {
+            fn fmt(&self, f: &mut fmt::Formatter<'_>) -> fmt::Result {
+                let article = if matches!(self.0, Kind::Array | Kind::Int) { "an" } else { "a" };
+                write!(f, "{article} {}", self.0)
+            }
+        }
+        WithArticle(self)
     }
 
     /// Whether rows of this kind have children: described, list, map and array.

@@ -8,17 +8,17 @@
 //!     t.map(|t| {
 //!         t.symbol("order").ulong(4711);
 //!         t.symbol("placed").timestamp(1_763_164_800_000);
-//!         t.symbol("sizes").array_of(["Ø1.2", "Ø1.3", "M4"]);
-//!     });
+//!         t.symbol("sizes").array_of(["Ø1.2", "Ø1.3", "M4"])
+//!     })
 //! });
 //! let bytes = order.to_bytes()?;
 //!
 //! let table = Table::from_bytes(&bytes)?;
 //! assert_eq!(table, order);
-//! for row in table.rows() {
-//!     if let Value::String(size) = row.value()? {
-//!         println!("row {}: size {size}", row.index);
-//!     }
+//! let map = table.root().unwrap();
+//! assert_eq!(map.get("order").unwrap().value()?, Value::Ulong(4711));
+//! for size in map.get("sizes").unwrap().children() {
+//!     println!("{:?}", size.value()?);
 //! }
 //! # Ok(())
 //! # }
@@ -35,26 +35,26 @@
 //! # fn main() -> Result<(), afsungar::Refusal> {
 //! use afsungar::{Kind, Table, Value};
 //!
-//! let lists = Table::build(|t| {
-//!     t.array_of_lists([[35, -12], [48, 7]]);
-//! });
+//! let lists = Table::build(|t| t.array_of_lists([[35, -12], [48, 7]]));
 //! let table = Table::from_bytes(&lists.to_bytes()?)?;
 //! for list in table.root().into_iter().flat_map(|array| array.children()) {
 //!     println!("{:?}", list.child_values()?);
 //! }
 //!
-//! let no_sizes = Table::build(|t| {
-//!     t.array_of::<&str>([]); // or t.empty_array(Kind::String)
-//! });
+//! let no_sizes = Table::build(|t| t.array_of::<&str>([])); // or t.empty_array(Kind::String)
 //! let table = Table::from_bytes(&no_sizes.to_bytes()?)?;
 //! assert_eq!(table.values()?, [Value::Array { count: 0, element: Some(Kind::String) }]);
 //! # Ok(())
 //! # }
 //! ```
 //!
+//! What is refused in writing is told in the builder's own terms by [`Table::explain`]: `$.vents[2]: a string of text in an array
+//! of int`.
+//!
 //! Underneath are four functions that work on lent memory and allocate nothing: [`size`], [`write`](write()), [`measure`]
 //! and [`read`]; and the [`Walker`], which goes through values that stand end to end. [`values`] is an iterator that does
-//! the same. They take words as they are; [`Kind::array_number`] makes the number of an array's row.
+//! the same. They take words as they are; [`Kind::array_number`] makes the number of an array's row, and [`rows`](rows()) looks
+//! into a table in lent memory.
 //!
 //! ```
 //! # fn main() -> Result<(), afsungar::Refusal> {
@@ -94,7 +94,7 @@
 //! let bytes = deep.to_bytes_within(LEVELS_MOST)?;
 //!
 //! let refusal = Table::from_bytes(&bytes).unwrap_err();
-//! assert_eq!((refusal.number, refusal.offset()), (3, Some(48))); // at the 17th list
+//! assert_eq!((refusal.number(), refusal.offset()), (3, Some(48))); // at the 17th list
 //! assert_eq!(Table::from_bytes_within(17, &bytes)?, deep);
 //!
 //! let refusal = deep.to_bytes_within(33).unwrap_err();
@@ -103,33 +103,60 @@
 //! # }
 //! ```
 //!
+//! # Without the standard library
+//!
+//! The feature `std` is on by default; it adds [`SystemTime`](std::time::SystemTime) and [`io::Error`](std::io::Error). Without
+//! it the crate is `no_std`. The feature `alloc`, which `std` brings along, has [`Table`] and [`Builder`]; without it there are
+//! the functions on lent memory, the [`Walker`], [`values`](values()) and [`rows`](rows()).
+//!
 //! # What is proved
 //!
 //! The library's functions in C: for each input, exactly which answer they give and which bytes and words they leave. This
 //! crate is ordinary Rust around them: it hands over slices, makes a [`Refusal`] of a number, and keeps tables in vectors.
+#![cfg_attr(not(feature = "std"), no_std)]
 #![forbid(unsafe_op_in_unsafe_fn)]
 #![deny(unsafe_code)]
-#![warn(missing_docs, clippy::undocumented_unsafe_blocks)]
+#![warn(missing_docs, clippy::undocumented_unsafe_blocks, clippy::missing_errors_doc)]
+
+#[cfg(feature = "alloc")]
+extern crate alloc;
 
 #[cfg(not(target_pointer_width = "64"))]
 compile_error!("the library is for 64-bit processors");
 
+#[cfg(feature = "alloc")]
 mod builder;
 #[allow(unsafe_code)]
 mod call;
+#[cfg(feature = "alloc")]
+mod explain;
 mod kind;
 pub mod raw;
 mod refusal;
+mod row;
+#[cfg(feature = "alloc")]
 mod table;
+mod timestamp;
+mod uuid;
 mod value;
 mod walker;
 
+#[cfg(feature = "alloc")]
+use alloc::{vec, vec::Vec};
+
+#[cfg(feature = "alloc")]
 pub use builder::Builder;
+#[cfg(feature = "alloc")]
+pub use explain::Explanation;
 pub use kind::Kind;
 pub use refusal::{Reason, Refusal, Task};
-pub use table::{Children, Row, Rows, Table};
-pub use value::{Element, Mismatch, Value};
-pub use walker::{values, values_within, Values, Walker};
+pub use row::{Below, Children, Entries, Row, Rows};
+#[cfg(feature = "alloc")]
+pub use table::Table;
+pub use timestamp::{TimeOutside, Timestamp};
+pub use uuid::{BadUuid, Uuid};
+pub use value::{Element, Mismatch, ToValue, Value};
+pub use walker::{values, values_within, ValueRefusal, Values, Walker};
 
 /// The least level limit that a call may name: the root and nothing below it.
 pub const LEVELS_LEAST: u64 = 1;
@@ -155,11 +182,19 @@ pub struct Extent {
 }
 
 /// The number of bytes that [`write`](write()) writes for a table.
+///
+/// # Errors
+///
+/// The reasons 1 to 7: the words and the text are no table, or it is too deep or too long.
 pub fn size(words: &[u64], text: &[u8]) -> Result<usize, Refusal> {
     call::size(None, words, text)
 }
 
 /// As [`size`], within a level limit.
+///
+/// # Errors
+///
+/// As [`size`], and [`LimitOutside`](Reason::LimitOutside).
 ///
 /// ```
 /// use afsungar::{size_within, Reason, Refusal};
@@ -173,19 +208,29 @@ pub fn size_within(limit: u64, words: &[u64], text: &[u8]) -> Result<usize, Refu
     call::size(Some(limit), words, text)
 }
 
-/// Writes a table's bytes to the start of `out` and gives their number.
+/// Writes a table's bytes to the start of `out` and gives their number. What is behind them in `out` stays as it is.
 ///
-/// What is behind them in `out` stays as it is, and on a refusal all of it does.
+/// # Errors
+///
+/// As [`size`], and [`OutputShort`](Reason::OutputShort). All of `out` is then as it was.
 pub fn write(words: &[u64], text: &[u8], out: &mut [u8]) -> Result<usize, Refusal> {
     call::write(None, words, text, out)
 }
 
 /// As [`write`](write()), within a level limit.
+///
+/// # Errors
+///
+/// As [`write`](write()), and [`LimitOutside`](Reason::LimitOutside).
 pub fn write_within(limit: u64, words: &[u64], text: &[u8], out: &mut [u8]) -> Result<usize, Refusal> {
     call::write(Some(limit), words, text, out)
 }
 
 /// The bytes of a table, in a vector that is as long as they are.
+///
+/// # Errors
+///
+/// As [`size`].
 ///
 /// ```
 /// # fn main() -> Result<(), afsungar::Refusal> {
@@ -193,19 +238,39 @@ pub fn write_within(limit: u64, words: &[u64], text: &[u8], out: &mut [u8]) -> R
 /// # Ok(())
 /// # }
 /// ```
+#[cfg(feature = "alloc")]
 pub fn write_to_vec(words: &[u64], text: &[u8]) -> Result<Vec<u8>, Refusal> {
     write_whole(None, words, text)
 }
 
 /// As [`write_to_vec`], within a level limit.
+///
+/// # Errors
+///
+/// As [`size_within`].
+#[cfg(feature = "alloc")]
 pub fn write_to_vec_within(limit: u64, words: &[u64], text: &[u8]) -> Result<Vec<u8>, Refusal> {
     write_whole(Some(limit), words, text)
 }
 
+#[cfg(feature = "alloc")]
 fn write_whole(limit: call::Limit, words: &[u64], text: &[u8]) -> Result<Vec<u8>, Refusal> {
     let mut out = vec![0; call::size(limit, words, text)?];
     call::write(limit, words, text, &mut out)?;
     Ok(out)
+}
+
+/// The rows of a table in lent memory, as [`Table::rows`].
+///
+/// ```
+/// use afsungar::{rows, Value};
+///
+/// let (words, text) = ([0xd1, 2, 0xb3, 1, 0x70, 2], b"v"); // map, symbol v to uint 2
+/// let map = rows(&words, text).next().unwrap();
+/// assert_eq!(map.get("v").unwrap().value(), Ok(Value::Uint(2)));
+/// ```
+pub const fn rows<'a>(words: &'a [u64], text: &'a [u8]) -> Rows<'a> {
+    Rows::of(words, text)
 }
 
 /// The row of a table that a byte of its text belongs to, if one has it: as [`Table::row_of_text_byte`], of lent memory.
@@ -218,10 +283,14 @@ fn write_whole(limit: call::Limit, words: &[u64], text: &[u8]) -> Result<Vec<u8>
 /// ```
 #[must_use]
 pub fn row_of_text_byte<'a>(words: &'a [u64], text: &'a [u8], byte: u64) -> Option<Row<'a>> {
-    Rows::of(words, text).with_text_byte(byte)
+    rows(words, text).with_text_byte(byte)
 }
 
 /// Measures the value at the start of `bytes`; what stands behind it is not looked at.
+///
+/// # Errors
+///
+/// The reasons 3, 4 and 9 to 12: no beginning of the bytes is a value within 16 levels.
 ///
 /// ```
 /// # fn main() -> Result<(), afsungar::Refusal> {
@@ -235,6 +304,10 @@ pub fn measure(bytes: &[u8]) -> Result<Extent, Refusal> {
 }
 
 /// As [`measure`], within a level limit.
+///
+/// # Errors
+///
+/// As [`measure`], and [`LimitOutside`](Reason::LimitOutside).
 pub fn measure_within(limit: u64, bytes: &[u8]) -> Result<Extent, Refusal> {
     call::measure(Some(limit), bytes)
 }
@@ -242,35 +315,21 @@ pub fn measure_within(limit: u64, bytes: &[u8]) -> Result<Extent, Refusal> {
 /// Reads the value at the start of `bytes` into `words`, two to a row, and `text`; what stands behind the value is not
 /// looked at.
 ///
-/// What is behind the table in `words` and `text` stays as it is, and on a refusal all of it does. A lone last word of
-/// `words` is room for no row.
+/// What is behind the table in `words` and `text` stays as it is. A lone last word of `words` is room for no row.
+///
+/// # Errors
+///
+/// As [`measure`]; and [`RowsShort`](Reason::RowsShort) or [`TextShort`](Reason::TextShort) where the table does not fit. All of
+/// `words` and `text` is then as it was.
 pub fn read(bytes: &[u8], words: &mut [u64], text: &mut [u8]) -> Result<Extent, Refusal> {
     call::read(None, bytes, words, text)
 }
 
 /// As [`read`], within a level limit.
+///
+/// # Errors
+///
+/// As [`read`], and [`LimitOutside`](Reason::LimitOutside).
 pub fn read_within(limit: u64, bytes: &[u8], words: &mut [u64], text: &mut [u8]) -> Result<Extent, Refusal> {
     call::read(Some(limit), bytes, words, text)
-}
-
-/// Reads the value at the start of `bytes` into a table that has exactly the memory that it needs.
-///
-/// What stands behind the value is not looked at: [`measure`] says where it ends, and [`values`] takes bytes apart into
-/// values. The table has at most one row and one byte of text for each byte of the value.
-///
-/// ```
-/// # fn main() -> Result<(), afsungar::Refusal> {
-/// let table = afsungar::read_to_table(&[0xc1, 0x06, 0x02, 0xa3, 0x01, 0x76, 0x52, 0x02])?; // map, symbol v to uint 2
-/// assert_eq!(table.words(), [0xd1, 2, 0xb3, 1, 0x70, 2]);
-/// assert_eq!(table.text(), b"v");
-/// # Ok(())
-/// # }
-/// ```
-pub fn read_to_table(bytes: &[u8]) -> Result<Table, Refusal> {
-    Table::from_bytes(bytes)
-}
-
-/// As [`read_to_table`], within a level limit.
-pub fn read_to_table_within(limit: u64, bytes: &[u8]) -> Result<Table, Refusal> {
-    Table::from_bytes_within(limit, bytes)
 }

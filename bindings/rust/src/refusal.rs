@@ -1,8 +1,9 @@
-use std::error::Error;
-use std::fmt;
+use core::error::Error;
+use core::fmt;
+#[cfg(feature = "std")]
 use std::io;
 
-/// Why nothing was done: one of fifteen reasons, and where.
+/// Why nothing was done: a reason, and where.
 ///
 /// The place is counted from 0. In writing it is a row, but where a text is bad it is a byte of the text; in reading it is an
 /// offset. [`row`](Refusal::row), [`text_byte`](Refusal::text_byte) and [`offset`](Refusal::offset) each give it only where
@@ -13,12 +14,12 @@ use std::io;
 ///
 /// let refusal = size(&[0xd0, 1, 0x56, 2], &[]).unwrap_err(); // a list of one boolean, which is neither 0 nor 1
 /// assert_eq!(refusal, Refusal::writing(Reason::NumberOutside, 1));
-/// assert_eq!((refusal.number, refusal.row()), (5, Some(1)));
+/// assert_eq!((refusal.number(), refusal.row()), (5, Some(1)));
 /// assert_eq!(refusal.to_string(), "the number is not one that the row's kind allows (5) at row 1");
 ///
 /// let refusal = size(&[0xd0, 2, 0xb1, 2, 0xb1, 2], b"M4M\xc3").unwrap_err(); // a list of two strings, the last cut off
 /// assert_eq!(refusal, Refusal::bad_text(3));
-/// assert_eq!((refusal.number, refusal.row(), refusal.text_byte()), (6, None, Some(3)));
+/// assert_eq!((refusal.number(), refusal.row(), refusal.text_byte()), (6, None, Some(3)));
 /// assert_eq!(refusal.to_string(), "a string is not UTF-8 or a symbol not ASCII (6) at byte 3 of the text");
 ///
 /// let refusal = measure(&[0xc0, 0x01, 0x01]).unwrap_err(); // a list that says it has a child, and has none
@@ -27,11 +28,8 @@ use std::io;
 /// ```
 #[derive(Clone, Copy, Debug, PartialEq, Eq, Hash)]
 pub struct Refusal {
-    /// The number of the reason, 1 to 15 (docs/FORMAT.md, 5.1).
-    pub number: u8,
-    /// A row, a byte of the text or an offset, from 0. For reasons that are of no one place (7, 8, 13, 14, 15) it is 0.
-    pub place: u64,
     reason: Reason,
+    place: u64,
     task: Task,
     /// Whether the place is a byte of the text.
     in_text: bool,
@@ -46,7 +44,7 @@ pub enum Task {
     Reading,
 }
 
-/// The fifteen reasons of a refusal, by the names and numbers of docs/FORMAT.md, 5.1.
+/// The reasons of a refusal: the library's fifteen, by the names and numbers of docs/FORMAT.md, 5.1, and one of this crate.
 ///
 /// ```
 /// use afsungar::Reason;
@@ -54,10 +52,14 @@ pub enum Task {
 /// assert_eq!(Reason::OutputShort.number(), 8);
 /// assert_eq!(Reason::from_number(8), Some(Reason::OutputShort));
 /// assert_eq!(Reason::ALL.len(), 15);
+/// assert_eq!(Reason::BytesLeft.number(), 0);
 /// ```
 #[derive(Clone, Copy, Debug, PartialEq, Eq, PartialOrd, Ord, Hash)]
 #[repr(u8)]
 pub enum Reason {
+    /// 0, since to the library it is no refusal: bytes stand behind a value that was to be all there is, as in
+    /// [`Table::from_bytes`](crate::Table::from_bytes). The offset is the first of them, so the length of the value.
+    BytesLeft = 0,
     /// 1: the words are odd in number; a row is needed and none is left; rows are left at the end.
     RowsAmiss = 1,
     /// 2: the kind is not one of the 25.
@@ -103,7 +105,7 @@ pub enum Reason {
 }
 
 impl Reason {
-    /// All fifteen, by number.
+    /// The library's fifteen, by number.
     pub const ALL: [Reason; 15] = [
         Reason::RowsAmiss,
         Reason::KindUnknown,
@@ -122,16 +124,24 @@ impl Reason {
         Reason::LimitOutside,
     ];
 
-    /// Its number, 1 to 15.
+    /// Its number in the library, 1 to 15; 0 for [`BytesLeft`](Reason::BytesLeft), where the library refuses nothing.
     #[must_use]
     pub const fn number(self) -> u8 {
         self as u8
     }
 
-    /// The reason of a number.
+    /// The library's reason of a number.
     #[must_use]
     pub fn from_number(number: u8) -> Option<Reason> {
         Reason::ALL.into_iter().find(|reason| reason.number() == number)
+    }
+
+    /// Whether a refusal with this reason has a place.
+    const fn has_place(self) -> bool {
+        !matches!(
+            self,
+            Reason::TooLong | Reason::OutputShort | Reason::RowsShort | Reason::TextShort | Reason::LimitOutside
+        )
     }
 }
 
@@ -145,7 +155,7 @@ impl Refusal {
     /// A refusal of sizing or writing. Where the reason is of no one row, the place is 0.
     #[must_use]
     pub const fn writing(reason: Reason, row: u64) -> Self {
-        Refusal { number: reason.number(), place: row, reason, task: Task::Writing, in_text: false }
+        Refusal { reason, place: row, task: Task::Writing, in_text: false }
     }
 
     /// A refusal of sizing or writing with [`TextAmiss`](Reason::TextAmiss), because this byte of the text is bad.
@@ -157,13 +167,34 @@ impl Refusal {
     /// A refusal of measuring, reading or walking. Where the reason is of no one offset, the place is 0.
     #[must_use]
     pub const fn reading(reason: Reason, offset: u64) -> Self {
-        Refusal { number: reason.number(), place: offset, reason, task: Task::Reading, in_text: false }
+        Refusal { reason, place: offset, task: Task::Reading, in_text: false }
+    }
+
+    /// The same of bytes that stand this much further behind.
+    pub(crate) const fn behind(self, passed: usize) -> Self {
+        match self.task {
+            Task::Reading if self.reason.has_place() => Refusal { place: self.place + passed as u64, ..self },
+            _ => self,
+        }
     }
 
     /// Why.
     #[must_use]
     pub const fn reason(&self) -> Reason {
         self.reason
+    }
+
+    /// The number of the reason, as [`Reason::number`] gives it.
+    #[must_use]
+    pub const fn number(&self) -> u8 {
+        self.reason.number()
+    }
+
+    /// A row, a byte of the text or an offset, from 0: [`row`](Refusal::row), [`text_byte`](Refusal::text_byte) and
+    /// [`offset`](Refusal::offset) tell which. For reasons that are of no one place (7, 8, 13, 14, 15) it is 0.
+    #[must_use]
+    pub const fn place(&self) -> u64 {
+        self.place
     }
 
     /// Whether it was in writing or in reading.
@@ -177,7 +208,7 @@ impl Refusal {
     /// It is none where a text is bad: then [`text_byte`](Refusal::text_byte) has the place.
     #[must_use]
     pub fn row(&self) -> Option<u64> {
-        (self.task == Task::Writing && !self.in_text && self.has_place()).then_some(self.place)
+        (self.task == Task::Writing && !self.in_text && self.reason.has_place()).then_some(self.place)
     }
 
     /// The byte of the text where writing ended, because a string is not UTF-8 or a symbol not ASCII; from 0, in the text of
@@ -198,20 +229,14 @@ impl Refusal {
     /// too. Which byte that is, [`text_byte`](Refusal::text_byte) says.
     #[must_use]
     pub fn offset(&self) -> Option<u64> {
-        (self.task == Task::Reading && self.has_place()).then_some(self.place)
-    }
-
-    fn has_place(&self) -> bool {
-        !matches!(
-            self.reason,
-            Reason::TooLong | Reason::OutputShort | Reason::RowsShort | Reason::TextShort | Reason::LimitOutside
-        )
+        (self.task == Task::Reading && self.reason.has_place()).then_some(self.place)
     }
 }
 
 impl fmt::Display for Refusal {
     fn fmt(&self, f: &mut fmt::Formatter<'_>) -> fmt::Result {
         let words = match (self.reason, self.task) {
+            (Reason::BytesLeft, _) => "bytes are left behind the value",
             (Reason::RowsAmiss, _) => "a row is missing or left over",
             (Reason::KindUnknown, _) => "the kind is not one of the 25",
             (Reason::TooDeep, _) => "a value stands deeper than the level limit of the call",
@@ -232,7 +257,10 @@ impl fmt::Display for Refusal {
             (Reason::TextShort, _) => "the room for text is too small",
             (Reason::LimitOutside, _) => "the level limit has to be from 1 to 32",
         };
-        write!(f, "{words} ({})", self.reason.number())?;
+        f.write_str(words)?;
+        if self.reason != Reason::BytesLeft {
+            write!(f, " ({})", self.number())?;
+        }
         match (self.row(), self.text_byte(), self.offset()) {
             (Some(row), ..) => write!(f, " at row {row}"),
             (_, Some(byte), _) => write!(f, " at byte {byte} of the text"),
@@ -245,6 +273,7 @@ impl fmt::Display for Refusal {
 impl Error for Refusal {}
 
 /// Of the kind `InvalidInput` in writing and `InvalidData` in reading. A level limit is input in both.
+#[cfg(feature = "std")]
 impl From<Refusal> for io::Error {
     fn from(refusal: Refusal) -> io::Error {
         let kind = match (refusal.reason, refusal.task) {

@@ -1,10 +1,10 @@
-use std::fmt;
-use std::iter::FusedIterator;
-use std::str;
+use alloc::string::String;
+use alloc::vec;
+use alloc::vec::Vec;
+use core::fmt;
 
 use crate::call::{self, Limit};
-use crate::kind::{children, element_code, text_length};
-use crate::{Builder, Extent, Kind, Reason, Refusal, Value};
+use crate::{Builder, Extent, Reason, Refusal, Row, Rows, ToValue, Value};
 
 /// A value as rows and text.
 ///
@@ -17,11 +17,7 @@ use crate::{Builder, Extent, Kind, Reason, Refusal, Value};
 /// # fn main() -> Result<(), afsungar::Refusal> {
 /// use afsungar::{Table, Value};
 ///
-/// let table = Table::build(|t| {
-///     t.list(|t| {
-///         t.uint(255).string("Ø1.2").array_of([1.5f32, -0.0]);
-///     });
-/// });
+/// let table = Table::build(|t| t.list(|t| t.uint(255).string("Ø1.2").array_of([1.5f32, -0.0])));
 /// let bytes = table.to_bytes()?;
 /// let again = Table::from_bytes(&bytes)?;
 /// assert_eq!(again, table);
@@ -63,11 +59,11 @@ pub struct Table {
 }
 
 impl Table {
-    /// Puts a table together.
+    /// Puts a table together. What the closure returns is dropped.
     #[must_use]
-    pub fn build(value: impl FnOnce(&mut Builder)) -> Self {
-        let mut builder = Builder::new();
-        value(&mut builder);
+    pub fn build<R>(value: impl FnOnce(&Builder) -> R) -> Self {
+        let builder = Builder::new();
+        value(&builder);
         builder.finish()
     }
 
@@ -83,32 +79,103 @@ impl Table {
         (self.words, self.text)
     }
 
-    /// Reads the value at the start of the bytes, as [`read_to_table`](crate::read_to_table) does.
+    /// Reads the value that the bytes are. The table has exactly the memory that it needs, at most one row and one byte of text
+    /// for each byte of the value.
+    ///
+    /// ```
+    /// use afsungar::{Reason, Refusal, Table};
+    ///
+    /// let table = Table::from_bytes(&[0xc1, 0x06, 0x02, 0xa3, 0x01, 0x76, 0x52, 0x02]).unwrap(); // map, symbol v to uint 2
+    /// assert_eq!(table.words(), [0xd1, 2, 0xb3, 1, 0x70, 2]);
+    /// assert_eq!(table.text(), b"v");
+    ///
+    /// let refusal = Table::from_bytes(&[0x52, 0xff, 0x40]).unwrap_err(); // uint 255, and a null behind it
+    /// assert_eq!(refusal, Refusal::reading(Reason::BytesLeft, 2));
+    /// assert_eq!(refusal.to_string(), "bytes are left behind the value at byte 2");
+    /// ```
+    ///
+    /// # Errors
+    ///
+    /// As [`measure`](crate::measure); and [`BytesLeft`](Reason::BytesLeft) where bytes stand behind the value:
+    /// [`from_prefix`](Table::from_prefix) takes these, and [`values`](crate::values()) takes values end to end apart.
     pub fn from_bytes(bytes: &[u8]) -> Result<Self, Refusal> {
-        Table::read_whole(None, bytes)
+        Table::read_all(None, bytes)
     }
 
     /// As [`from_bytes`](Table::from_bytes), within a level limit. A table of more than 16 levels is written again by
     /// [`to_bytes_within`](Table::to_bytes_within).
+    ///
+    /// # Errors
+    ///
+    /// As [`from_bytes`](Table::from_bytes), and [`LimitOutside`](Reason::LimitOutside).
     pub fn from_bytes_within(limit: u64, bytes: &[u8]) -> Result<Self, Refusal> {
-        Table::read_whole(Some(limit), bytes)
+        Table::read_all(Some(limit), bytes)
     }
 
-    fn read_whole(limit: Limit, bytes: &[u8]) -> Result<Self, Refusal> {
+    /// Reads the value at the start of the bytes, and gives its length too. What stands behind it is not looked at.
+    ///
+    /// ```
+    /// # fn main() -> Result<(), afsungar::Refusal> {
+    /// use afsungar::{Table, Value};
+    ///
+    /// let bytes = [0x52, 0xff, 0x40]; // uint 255, and a null behind it
+    /// let (table, length) = Table::from_prefix(&bytes)?;
+    /// assert_eq!((table, length), (Table::from(Value::Uint(255)), 2));
+    /// # Ok(())
+    /// # }
+    /// ```
+    ///
+    /// # Errors
+    ///
+    /// As [`measure`](crate::measure).
+    pub fn from_prefix(bytes: &[u8]) -> Result<(Self, usize), Refusal> {
+        Table::read_front(None, bytes)
+    }
+
+    /// As [`from_prefix`](Table::from_prefix), within a level limit.
+    ///
+    /// # Errors
+    ///
+    /// As [`from_prefix`](Table::from_prefix), and [`LimitOutside`](Reason::LimitOutside).
+    pub fn from_prefix_within(limit: u64, bytes: &[u8]) -> Result<(Self, usize), Refusal> {
+        Table::read_front(Some(limit), bytes)
+    }
+
+    fn read_all(limit: Limit, bytes: &[u8]) -> Result<Self, Refusal> {
         let extent = call::measure(limit, bytes)?;
+        if extent.length < bytes.len() {
+            return Err(Refusal::reading(Reason::BytesLeft, extent.length as u64));
+        }
+        Table::read_measured(limit, bytes, extent)
+    }
+
+    fn read_front(limit: Limit, bytes: &[u8]) -> Result<(Self, usize), Refusal> {
+        let extent = call::measure(limit, bytes)?;
+        Table::read_measured(limit, bytes, extent).map(|table| (table, extent.length))
+    }
+
+    fn read_measured(limit: Limit, bytes: &[u8], extent: Extent) -> Result<Self, Refusal> {
         // A value has at least a byte for each row and for each byte of text, so this is no more than the bytes call for.
         let mut table = Table { words: vec![0; 2 * extent.rows], text: vec![0; extent.text] };
         call::read(limit, bytes, &mut table.words, &mut table.text)?;
         Ok(table)
     }
 
-    /// Reads the value at the start of the bytes into this table, whose memory is used again. On a refusal the table is as
-    /// it was.
+    /// Reads the value at the start of the bytes into this table, whose memory is used again. What stands behind the value is
+    /// not looked at; the answer has its length.
+    ///
+    /// # Errors
+    ///
+    /// As [`measure`](crate::measure). The table is then as it was.
     pub fn read_from(&mut self, bytes: &[u8]) -> Result<Extent, Refusal> {
         self.read_over(None, bytes)
     }
 
     /// As [`read_from`](Table::read_from), within a level limit.
+    ///
+    /// # Errors
+    ///
+    /// As [`read_from`](Table::read_from), and [`LimitOutside`](Reason::LimitOutside).
     pub fn read_from_within(&mut self, limit: u64, bytes: &[u8]) -> Result<Extent, Refusal> {
         self.read_over(Some(limit), bytes)
     }
@@ -121,33 +188,92 @@ impl Table {
     }
 
     /// The number of bytes that it is written in.
+    ///
+    /// # Errors
+    ///
+    /// As [`size`](crate::size). [`explain`](Table::explain) says what is wrong where.
     pub fn size(&self) -> Result<usize, Refusal> {
         call::size(None, &self.words, &self.text)
     }
 
     /// As [`size`](Table::size), within a level limit.
+    ///
+    /// # Errors
+    ///
+    /// As [`size`](Table::size), and [`LimitOutside`](Reason::LimitOutside).
     pub fn size_within(&self, limit: u64) -> Result<usize, Refusal> {
         call::size(Some(limit), &self.words, &self.text)
     }
 
     /// The bytes that it is written in.
+    ///
+    /// # Errors
+    ///
+    /// As [`size`](Table::size).
     pub fn to_bytes(&self) -> Result<Vec<u8>, Refusal> {
         crate::write_to_vec(&self.words, &self.text)
     }
 
     /// As [`to_bytes`](Table::to_bytes), within a level limit.
+    ///
+    /// # Errors
+    ///
+    /// As [`size_within`](Table::size_within).
     pub fn to_bytes_within(&self, limit: u64) -> Result<Vec<u8>, Refusal> {
         crate::write_to_vec_within(limit, &self.words, &self.text)
     }
 
-    /// Writes it to the start of `out` and gives the number of bytes written. On a refusal `out` is as it was.
+    /// Writes it to the start of `out` and gives the number of bytes written.
+    ///
+    /// # Errors
+    ///
+    /// As [`size`](Table::size), and [`OutputShort`](Reason::OutputShort). Then `out` is as it was.
     pub fn write_to(&self, out: &mut [u8]) -> Result<usize, Refusal> {
         call::write(None, &self.words, &self.text, out)
     }
 
     /// As [`write_to`](Table::write_to), within a level limit.
+    ///
+    /// # Errors
+    ///
+    /// As [`write_to`](Table::write_to), and [`LimitOutside`](Reason::LimitOutside).
     pub fn write_to_within(&self, limit: u64, out: &mut [u8]) -> Result<usize, Refusal> {
         call::write(Some(limit), &self.words, &self.text, out)
+    }
+
+    /// Writes it behind what `out` holds and gives the number of bytes written.
+    ///
+    /// ```
+    /// # fn main() -> Result<(), afsungar::Refusal> {
+    /// use afsungar::{Table, Value};
+    ///
+    /// let mut out = vec![0x40];
+    /// assert_eq!(Table::from(Value::Uint(255)).append_to(&mut out)?, 2);
+    /// assert_eq!(out, [0x40, 0x52, 0xff]);
+    /// # Ok(())
+    /// # }
+    /// ```
+    ///
+    /// # Errors
+    ///
+    /// As [`size`](Table::size). Then `out` holds what it held.
+    pub fn append_to(&self, out: &mut Vec<u8>) -> Result<usize, Refusal> {
+        self.append(None, out)
+    }
+
+    /// As [`append_to`](Table::append_to), within a level limit.
+    ///
+    /// # Errors
+    ///
+    /// As [`size_within`](Table::size_within). Then `out` holds what it held.
+    pub fn append_to_within(&self, limit: u64, out: &mut Vec<u8>) -> Result<usize, Refusal> {
+        self.append(Some(limit), out)
+    }
+
+    fn append(&self, limit: Limit, out: &mut Vec<u8>) -> Result<usize, Refusal> {
+        let (start, size) = (out.len(), call::size(limit, &self.words, &self.text)?);
+        out.resize(start + size, 0);
+        call::write(limit, &self.words, &self.text, &mut out[start..])
     }
 
     /// Its words, two to a row.
@@ -191,12 +317,7 @@ impl Table {
     /// ```
     /// use afsungar::Table;
     ///
-    /// let order = Table::build(|t| {
-    ///     t.map(|t| {
-    ///         t.symbol("size").string("Ø1.2");
-    ///         t.symbol("für").string("left");
-    ///     });
-    /// });
+    /// let order = Table::build(|t| t.map(|t| t.symbol("size").string("Ø1.2").symbol("für").string("left")));
     /// let refusal = order.to_bytes().unwrap_err();
     /// assert_eq!(refusal.to_string(), "a string is not UTF-8 or a symbol not ASCII (6) at byte 10 of the text");
     ///
@@ -210,7 +331,11 @@ impl Table {
         self.rows().with_text_byte(byte)
     }
 
-    /// What each row holds, in order. It is refused where a row is none of its kind, as [`Row::value`] is.
+    /// What each row holds, in order.
+    ///
+    /// # Errors
+    ///
+    /// It is refused where a row is none of its kind, as [`Row::value`] is.
     pub fn values(&self) -> Result<Vec<Value<'_>>, Refusal> {
         self.rows().map(|row| row.value()).collect()
     }
@@ -229,11 +354,12 @@ impl fmt::Debug for Table {
         let mut list = f.debug_list();
         list.entries(&mut rows);
         // What is no row and no row's text.
-        if let [word] = rows.cursor.words {
+        let (words, text) = rows.rest();
+        if let [word] = words {
             list.entry(&format_args!("lone word {word}"));
         }
-        if !rows.cursor.text.is_empty() {
-            list.entry(&format_args!("text left {:?}", rows.cursor.text));
+        if !text.is_empty() {
+            list.entry(&format_args!("text left {text:?}"));
         }
         list.finish()
     }
@@ -246,14 +372,22 @@ impl From<Value<'_>> for Table {
     }
 }
 
+/// A table of one string. The text is not copied.
+impl From<String> for Table {
+    fn from(text: String) -> Self {
+        let value = Value::String(&text);
+        Table { words: vec![value.kind().code(), value.number()], text: text.into_bytes() }
+    }
+}
+
 /// A table of these rows.
-impl<'a, V: Into<Value<'a>>> FromIterator<V> for Table {
+impl<V: ToValue> FromIterator<V> for Table {
     fn from_iter<I: IntoIterator<Item = V>>(rows: I) -> Self {
         Table::build(|t| t.extend(rows))
     }
 }
 
-/// Reads the value at the start of the bytes.
+/// Reads the value that the bytes are, as [`Table::from_bytes`].
 impl TryFrom<&[u8]> for Table {
     type Error = Refusal;
 
@@ -279,281 +413,3 @@ impl<'a> IntoIterator for &'a Table {
         self.rows()
     }
 }
-
-/// A row of a table.
-///
-/// `Display` prints the line that the listing has for it, without the newline.
-#[derive(Clone, Copy)]
-pub struct Row<'a> {
-    /// Which row it is, from 0.
-    pub index: usize,
-    /// Its kind as a word; [`Kind::from_code`] names it.
-    pub kind: u64,
-    /// Its number: the value itself, a length or a count. An array's has two parts, [`count`](Row::count) and
-    /// [`element_kind`](Row::element_kind).
-    pub number: u64,
-    /// Its part of the text; less of it where the table has too little.
-    pub text: &'a [u8],
-    /// Where that begins in the text of the table.
-    pub text_start: usize,
-    behind: Cursor<'a>,
-}
-
-impl<'a> Row<'a> {
-    /// What it holds.
-    ///
-    /// It is refused as the writer would refuse the row: with [`KindUnknown`](Reason::KindUnknown),
-    /// [`ElementUnfit`](Reason::ElementUnfit), where an array tells a kind that arrays cannot hold,
-    /// [`NumberOutside`](Reason::NumberOutside) or [`TextAmiss`](Reason::TextAmiss). Not so where the table was read: the
-    /// writer's limits of 1,048,576 are not looked at, and an empty array need not tell the kind of its elements.
-    pub fn value(&self) -> Result<Value<'a>, Refusal> {
-        self.typed().map_err(|reason| match self.faulty_byte() {
-            Some(byte) if reason == Reason::TextAmiss => Refusal::bad_text((self.text_start + byte) as u64),
-            _ => Refusal::writing(reason, self.index as u64),
-        })
-    }
-
-    /// Where its text is bad, if all of it is there.
-    fn faulty_byte(&self) -> Option<usize> {
-        if self.text.len() as u64 != text_length(self.kind, self.number) {
-            return None;
-        }
-        match Kind::from_code(self.kind)? {
-            Kind::String => str::from_utf8(self.text).err().map(|error| error.valid_up_to()),
-            Kind::Symbol => self.text.iter().position(|byte| !byte.is_ascii()),
-            _ => None,
-        }
-    }
-
-    fn typed(&self) -> Result<Value<'a>, Reason> {
-        let number = self.number;
-        let kind = Kind::from_code(self.kind).ok_or(Reason::KindUnknown)?;
-        let numbered = |good: bool| if good { Ok(()) } else { Err(Reason::NumberOutside) };
-        let sixteen = || <[u8; 16]>::try_from(self.text).map_err(|_| Reason::TextAmiss);
-        let binary = || Some(self.text).filter(|text| text.len() as u64 == number).ok_or(Reason::TextAmiss);
-        let string = || str::from_utf8(binary()?).map_err(|_| Reason::TextAmiss);
-        Ok(match kind {
-            Kind::Described => numbered(number == 2).map(|()| Value::Described)?,
-            Kind::Null => numbered(number == 0).map(|()| Value::Null)?,
-            Kind::Boolean => numbered(number < 2).map(|()| Value::Boolean(number == 1))?,
-            Kind::Ubyte => Value::Ubyte(fit(number)?),
-            Kind::Byte => Value::Byte(fit::<u8>(number)? as i8),
-            Kind::Ushort => Value::Ushort(fit(number)?),
-            Kind::Short => Value::Short(fit::<u16>(number)? as i16),
-            Kind::Uint => Value::Uint(fit(number)?),
-            Kind::Int => Value::Int(fit::<u32>(number)? as i32),
-            Kind::Float => Value::Float(f32::from_bits(fit(number)?)),
-            Kind::Char => Value::Char(char::from_u32(fit(number)?).ok_or(Reason::NumberOutside)?),
-            Kind::Decimal32 => Value::Decimal32(fit(number)?),
-            Kind::Ulong => Value::Ulong(number),
-            Kind::Long => Value::Long(number as i64),
-            Kind::Double => Value::Double(f64::from_bits(number)),
-            Kind::Timestamp => Value::Timestamp(number as i64),
-            Kind::Decimal64 => Value::Decimal64(number),
-            Kind::Decimal128 => numbered(number == 0).and_then(|()| sixteen()).map(Value::Decimal128)?,
-            Kind::Uuid => numbered(number == 0).and_then(|()| sixteen()).map(Value::Uuid)?,
-            Kind::Binary => Value::Binary(binary()?),
-            Kind::String => Value::String(string()?),
-            Kind::Symbol => Value::Symbol(Some(string()?).filter(|text| text.is_ascii()).ok_or(Reason::TextAmiss)?),
-            Kind::List => Value::List(self.count()),
-            Kind::Map => numbered(number % 2 == 0).map(|()| Value::Map(self.count()))?,
-            Kind::Array => Value::Array { count: self.count(), element: self.element()? },
-        })
-    }
-
-    /// The kind that an array's row tells, if it is one that arrays can hold; none if an empty array tells none.
-    fn element(&self) -> Result<Option<Kind>, Reason> {
-        match (element_code(self.number), self.count()) {
-            (0, 0) => Ok(None),
-            (0, _) => Err(Reason::NumberOutside),
-            (code, _) => match Kind::from_code(code) {
-                Some(kind) if kind.is_element() => Ok(Some(kind)),
-                Some(_) => Err(Reason::ElementUnfit),
-                None => Err(Reason::NumberOutside),
-            },
-        }
-    }
-
-    /// How many children it says it has: its number if its kind has children, of an array's number the part that is the
-    /// count; else 0.
-    #[must_use]
-    pub fn count(&self) -> usize {
-        children(self.kind, self.number) as usize
-    }
-
-    /// The kind of its elements: none if it is an array that does not tell it, or no array.
-    ///
-    /// It is none, too, where the row tells what arrays cannot hold or what is no kind; [`value`](Row::value) then says so.
-    ///
-    /// ```
-    /// # fn main() -> Result<(), afsungar::Refusal> {
-    /// use afsungar::{Kind, Table};
-    ///
-    /// let told = Table::from_bytes(&[0xe0, 0x02, 0x00, 0xa3])?; // an empty array, its element code that of short symbols
-    /// assert_eq!(told.root().and_then(|array| array.element_kind()), Some(Kind::Symbol));
-    /// let not_told = Table::from_bytes(&[0xe0, 0x01, 0x00])?;
-    /// assert_eq!(not_told.root().and_then(|array| array.element_kind()), None);
-    /// # Ok(())
-    /// # }
-    /// ```
-    #[must_use]
-    pub fn element_kind(&self) -> Option<Kind> {
-        match self.typed() {
-            Ok(Value::Array { element, .. }) => element,
-            _ => None,
-        }
-    }
-
-    /// Its children, without what is below them.
-    ///
-    /// ```
-    /// use afsungar::Table;
-    ///
-    /// let table = Table::build(|t| {
-    ///     t.list(|t| {
-    ///         t.list_of([1u32, 2, 3]).list_of([4u32]);
-    ///     });
-    /// });
-    /// let counts = table.root().into_iter().flat_map(|list| list.children()).map(|child| child.count());
-    /// assert_eq!(counts.collect::<Vec<_>>(), [3, 1]);
-    /// ```
-    pub fn children(&self) -> Children<'a> {
-        Children { cursor: self.behind, below: 0, left: self.count() }
-    }
-
-    /// What each child holds, in order. It is refused where a child is none of its kind, as [`Row::value`] is.
-    ///
-    /// ```
-    /// # fn main() -> Result<(), afsungar::Refusal> {
-    /// use afsungar::{Kind, Table, Value};
-    ///
-    /// let vents = Table::build(|t| {
-    ///     t.array(Kind::List, |t| {
-    ///         t.list_of([Value::String("Ø1.2"), Value::Int(35)]);
-    ///         t.list_of([Value::String("Ø1.3"), Value::Int(48)]);
-    ///     });
-    /// });
-    /// let mut found = Vec::new();
-    /// for vent in vents.root().into_iter().flat_map(|array| array.children()) {
-    ///     if let [Value::String(size), Value::Int(across)] = vent.child_values()?[..] {
-    ///         found.push((size, across));
-    ///     }
-    /// }
-    /// assert_eq!(found, [("Ø1.2", 35), ("Ø1.3", 48)]);
-    /// # Ok(())
-    /// # }
-    /// ```
-    pub fn child_values(&self) -> Result<Vec<Value<'a>>, Refusal> {
-        self.children().map(|child| child.value()).collect()
-    }
-}
-
-/// A number at the width of its kind.
-fn fit<T: TryFrom<u64>>(number: u64) -> Result<T, Reason> {
-    T::try_from(number).map_err(|_| Reason::NumberOutside)
-}
-
-impl fmt::Display for Row<'_> {
-    fn fmt(&self, f: &mut fmt::Formatter<'_>) -> fmt::Result {
-        write!(f, "{} {:02x} {}", self.index, self.kind, self.number)
-    }
-}
-
-impl fmt::Debug for Row<'_> {
-    fn fmt(&self, f: &mut fmt::Formatter<'_>) -> fmt::Result {
-        match self.value() {
-            Ok(value) => value.fmt(f),
-            Err(_) => write!(f, "bad row {:02x}:{} {:?}", self.kind, self.number, self.text),
-        }
-    }
-}
-
-/// The rows from one on, and their text.
-#[derive(Clone, Copy, Debug)]
-struct Cursor<'a> {
-    index: usize,
-    words: &'a [u64],
-    text: &'a [u8],
-    /// Where this text begins in that of the table.
-    text_start: usize,
-}
-
-impl<'a> Cursor<'a> {
-    fn step(&mut self) -> Option<Row<'a>> {
-        let [kind, number, words @ ..] = self.words else {
-            return None;
-        };
-        let length = text_length(*kind, *number) as usize;
-        let (text, left) = self.text.split_at(length.min(self.text.len()));
-        let Cursor { index, text_start, .. } = *self;
-        *self = Cursor { index: index + 1, words, text: left, text_start: text_start + text.len() };
-        Some(Row { index, kind: *kind, number: *number, text, text_start, behind: *self })
-    }
-}
-
-/// An iterator over the rows of a table; see [`Table::rows`].
-#[derive(Clone, Debug)]
-#[must_use]
-pub struct Rows<'a> {
-    cursor: Cursor<'a>,
-}
-
-impl<'a> Rows<'a> {
-    pub(crate) fn of(words: &'a [u64], text: &'a [u8]) -> Self {
-        Rows { cursor: Cursor { index: 0, words, text, text_start: 0 } }
-    }
-
-    /// The row whose text has this byte, counted in the text of the table.
-    pub(crate) fn with_text_byte(mut self, byte: u64) -> Option<Row<'a>> {
-        self.find(|row| byte < (row.text_start + row.text.len()) as u64)
-    }
-}
-
-impl<'a> Iterator for Rows<'a> {
-    type Item = Row<'a>;
-
-    fn next(&mut self) -> Option<Row<'a>> {
-        self.cursor.step()
-    }
-
-    fn size_hint(&self) -> (usize, Option<usize>) {
-        let left = self.cursor.words.len() / 2;
-        (left, Some(left))
-    }
-}
-
-impl ExactSizeIterator for Rows<'_> {}
-impl FusedIterator for Rows<'_> {}
-
-/// An iterator over the children of a row; see [`Row::children`].
-///
-/// It ends early where the table has too few rows.
-#[derive(Clone, Debug)]
-#[must_use]
-pub struct Children<'a> {
-    cursor: Cursor<'a>,
-    /// Children of the last child, to be passed over before the next.
-    below: usize,
-    left: usize,
-}
-
-impl<'a> Iterator for Children<'a> {
-    type Item = Row<'a>;
-
-    fn next(&mut self) -> Option<Row<'a>> {
-        self.left = self.left.checked_sub(1)?;
-        while self.below > 0 {
-            let row = self.cursor.step()?;
-            self.below = (self.below - 1).saturating_add(row.count());
-        }
-        let child = self.cursor.step()?;
-        self.below = child.count();
-        Some(child)
-    }
-
-    fn size_hint(&self) -> (usize, Option<usize>) {
-        (0, Some(self.left.min(self.cursor.words.len() / 2)))
-    }
-}
-
-impl FusedIterator for Children<'_> {}

@@ -1,7 +1,9 @@
-use std::error::Error;
-use std::fmt;
+#[cfg(feature = "alloc")]
+use alloc::{borrow::Cow, borrow::ToOwned, string::String, vec::Vec};
+use core::error::Error;
+use core::fmt;
 
-use crate::Kind;
+use crate::{Kind, Timestamp, Uuid};
 
 /// What a row holds, by its kind.
 ///
@@ -53,13 +55,13 @@ pub enum Value<'a> {
     /// 64 bits, binary floating point. All its bits are kept.
     Double(f64),
     /// Milliseconds since 1970.
-    Timestamp(i64),
+    Timestamp(Timestamp),
     /// The 64 bits of a decimal floating point number.
     Decimal64(u64),
     /// The 128 bits of a decimal floating point number, most significant byte first.
     Decimal128([u8; 16]),
     /// A UUID.
-    Uuid([u8; 16]),
+    Uuid(Uuid),
     /// Any bytes.
     Binary(&'a [u8]),
     /// UTF-8.
@@ -133,7 +135,7 @@ impl Value<'_> {
             Value::Byte(n) => u64::from(n as u8),
             Value::Short(n) => u64::from(n as u16),
             Value::Int(n) => u64::from(n as u32),
-            Value::Long(n) | Value::Timestamp(n) => n as u64,
+            Value::Long(n) | Value::Timestamp(Timestamp(n)) => n as u64,
             Value::Float(x) => u64::from(x.to_bits()),
             Value::Double(x) => x.to_bits(),
             Value::Char(c) => u64::from(c),
@@ -151,7 +153,8 @@ impl Value<'_> {
     #[must_use]
     pub fn text(&self) -> &[u8] {
         match self {
-            Value::Decimal128(bytes) | Value::Uuid(bytes) => bytes,
+            Value::Decimal128(bytes) => bytes,
+            Value::Uuid(uuid) => uuid.as_bytes(),
             Value::Binary(bytes) => bytes,
             Value::String(text) | Value::Symbol(text) => text.as_bytes(),
             _ => &[],
@@ -169,6 +172,34 @@ impl Value<'_> {
     }
 }
 
+/// A type whose values are AMQP values: what a [`Builder`](crate::Builder) takes.
+///
+/// Rust's own numbers, `bool`, `char`, `str`, `String`, byte slices, `()` and [`Option`] are such types, [`Value`] itself is,
+/// and references to all of them are. A type of one's own can be one: see [`Element`]. An array of bytes is none, because 16
+/// of them may be meant as a binary, a [`Uuid`] or a decimal128; a slice of bytes is a binary.
+///
+/// ```
+/// use afsungar::{Table, ToValue, Value};
+///
+/// struct Size {
+///     name: String,
+/// }
+///
+/// impl ToValue for Size {
+///     fn to_value(&self) -> Value<'_> {
+///         Value::Symbol(&self.name)
+///     }
+/// }
+///
+/// let sizes = [Size { name: "M4".to_owned() }];
+/// let table = Table::build(|t| t.list_of(&sizes));
+/// assert_eq!(table.root().and_then(|list| list.children().next()).unwrap().value(), Ok(Value::Symbol("M4")));
+/// ```
+pub trait ToValue {
+    /// The value, with what it borrows.
+    fn to_value(&self) -> Value<'_>;
+}
+
 /// A type whose values all have one kind, which arrays can hold: what [`Builder::array_of`](crate::Builder::array_of) takes.
 ///
 /// The type tells the kind, so it is told also where there are no values. [`Value`] itself is no such type, nor is
@@ -178,39 +209,103 @@ impl Value<'_> {
 ///
 /// ```
 /// # fn main() -> Result<(), afsungar::Refusal> {
-/// use afsungar::{Element, Kind, Table, Value};
+/// use afsungar::{Element, Kind, Table, ToValue, Value};
 ///
 /// struct Name(&'static str);
 ///
-/// impl From<Name> for Value<'_> {
-///     fn from(name: Name) -> Self {
-///         Value::Symbol(name.0)
+/// impl ToValue for Name {
+///     fn to_value(&self) -> Value<'_> {
+///         Value::Symbol(self.0)
 ///     }
 /// }
 ///
-/// impl Element<'_> for Name {
+/// impl Element for Name {
 ///     const KIND: Kind = Kind::Symbol;
 /// }
 ///
-/// let names = Table::build(|t| {
-///     t.array_of([Name("left"), Name("right")]);
-/// });
-/// let none = Table::build(|t| {
-///     t.array_of::<Name>([]);
-/// });
+/// let names = Table::build(|t| t.array_of([Name("left"), Name("right")]));
+/// let none = Table::build(|t| t.array_of::<Name>([]));
 /// assert_eq!(names.to_bytes()?.len(), 21);
 /// assert_eq!(none.to_bytes()?, [0xe0, 0x02, 0x00, 0xb3]);
 /// # Ok(())
 /// # }
 /// ```
-pub trait Element<'a>: Into<Value<'a>> {
+pub trait Element: ToValue {
     /// The kind that its values have.
     const KIND: Kind;
 }
 
+impl<T: ToValue + ?Sized> ToValue for &T {
+    fn to_value(&self) -> Value<'_> {
+        (**self).to_value()
+    }
+}
+
+impl<T: Element + ?Sized> Element for &T {
+    const KIND: Kind = T::KIND;
+}
+
+impl ToValue for Value<'_> {
+    fn to_value(&self) -> Value<'_> {
+        *self
+    }
+}
+
+/// Whatever a reference refers to: `&str`, `&String` and `&[u8]` among others.
+impl<'a, T: ToValue + ?Sized> From<&'a T> for Value<'a> {
+    fn from(value: &'a T) -> Self {
+        value.to_value()
+    }
+}
+
+/// Null.
+impl ToValue for () {
+    fn to_value(&self) -> Value<'_> {
+        Value::Null
+    }
+}
+
+/// Null.
+impl From<()> for Value<'_> {
+    fn from((): ()) -> Self {
+        Value::Null
+    }
+}
+
+/// Null for none.
+impl<T: ToValue> ToValue for Option<T> {
+    fn to_value(&self) -> Value<'_> {
+        self.as_ref().map_or(Value::Null, T::to_value)
+    }
+}
+
+/// Null for none.
+impl<'a, V: Into<Value<'a>>> From<Option<V>> for Value<'a> {
+    fn from(value: Option<V>) -> Self {
+        value.map_or(Value::Null, Into::into)
+    }
+}
+
+/// The value of a kind, or what was found in its place.
+macro_rules! of_kind {
+    ($value:expr, $kind:ident) => {
+        match $value {
+            Value::$kind(value) => Ok(value),
+            other => Err(Mismatch { wanted: Kind::$kind, found: other.kind() }),
+        }
+    };
+}
+
+/// Types that are a value by themselves.
 macro_rules! convert {
     ($($type:ty, $kind:ident;)*) => { $(
-        impl Element<'_> for $type {
+        impl ToValue for $type {
+            fn to_value(&self) -> Value<'_> {
+                Value::$kind(*self)
+            }
+        }
+
+        impl Element for $type {
             const KIND: Kind = Kind::$kind;
         }
 
@@ -224,10 +319,7 @@ macro_rules! convert {
             type Error = Mismatch;
 
             fn try_from(value: Value<'_>) -> Result<Self, Mismatch> {
-                match value {
-                    Value::$kind(value) => Ok(value),
-                    other => Err(Mismatch { wanted: Kind::$kind, found: other.kind() }),
-                }
+                of_kind!(value, $kind)
             }
         }
     )* };
@@ -246,75 +338,41 @@ convert! {
     f32, Float;
     f64, Double;
     char, Char;
+    Timestamp, Timestamp;
+    Uuid, Uuid;
 }
 
-/// Null.
-impl From<()> for Value<'_> {
-    fn from((): ()) -> Self {
-        Value::Null
-    }
+/// Types that lend a text to the value.
+macro_rules! lend {
+    ($($(#[$attribute:meta])* $type:ty, $kind:ident;)*) => { $(
+        $(#[$attribute])*
+        impl ToValue for $type {
+            fn to_value(&self) -> Value<'_> {
+                Value::$kind(self)
+            }
+        }
+
+        $(#[$attribute])*
+        impl Element for $type {
+            const KIND: Kind = Kind::$kind;
+        }
+    )* };
 }
 
-/// A string. A symbol is made by name, [`Value::Symbol`].
-impl<'a> From<&'a str> for Value<'a> {
-    fn from(text: &'a str) -> Self {
-        Value::String(text)
-    }
-}
-
-impl<'a> Element<'a> for &'a str {
-    const KIND: Kind = Kind::String;
-}
-
-/// A string.
-impl<'a> From<&'a String> for Value<'a> {
-    fn from(text: &'a String) -> Self {
-        Value::String(text)
-    }
-}
-
-impl<'a> Element<'a> for &'a String {
-    const KIND: Kind = Kind::String;
-}
-
-/// A binary.
-impl<'a> From<&'a [u8]> for Value<'a> {
-    fn from(bytes: &'a [u8]) -> Self {
-        Value::Binary(bytes)
-    }
-}
-
-impl<'a> Element<'a> for &'a [u8] {
-    const KIND: Kind = Kind::Binary;
-}
-
-/// A binary. A UUID is made by name, [`Value::Uuid`].
-impl<'a, const N: usize> From<&'a [u8; N]> for Value<'a> {
-    fn from(bytes: &'a [u8; N]) -> Self {
-        Value::Binary(bytes)
-    }
-}
-
-impl<'a, const N: usize> Element<'a> for &'a [u8; N] {
-    const KIND: Kind = Kind::Binary;
-}
-
-/// A binary.
-impl<'a> From<&'a Vec<u8>> for Value<'a> {
-    fn from(bytes: &'a Vec<u8>) -> Self {
-        Value::Binary(bytes)
-    }
-}
-
-impl<'a> Element<'a> for &'a Vec<u8> {
-    const KIND: Kind = Kind::Binary;
-}
-
-/// Null for none.
-impl<'a, V: Into<Value<'a>>> From<Option<V>> for Value<'a> {
-    fn from(value: Option<V>) -> Self {
-        value.map_or(Value::Null, Into::into)
-    }
+lend! {
+    /// A string. A symbol is made by name, [`Value::Symbol`].
+    str, String;
+    /// A binary.
+    [u8], Binary;
+    /// A string.
+    #[cfg(feature = "alloc")]
+    String, String;
+    /// A string.
+    #[cfg(feature = "alloc")]
+    Cow<'_, str>, String;
+    /// A binary.
+    #[cfg(feature = "alloc")]
+    Vec<u8>, Binary;
 }
 
 /// The text of a string or of a symbol.
@@ -323,9 +381,19 @@ impl<'a> TryFrom<Value<'a>> for &'a str {
 
     fn try_from(value: Value<'a>) -> Result<Self, Mismatch> {
         match value {
-            Value::String(text) | Value::Symbol(text) => Ok(text),
-            other => Err(Mismatch { wanted: Kind::String, found: other.kind() }),
+            Value::Symbol(text) => Ok(text),
+            other => of_kind!(other, String),
         }
+    }
+}
+
+/// The text of a string or of a symbol.
+#[cfg(feature = "alloc")]
+impl TryFrom<Value<'_>> for String {
+    type Error = Mismatch;
+
+    fn try_from(value: Value<'_>) -> Result<Self, Mismatch> {
+        <&str>::try_from(value).map(ToOwned::to_owned)
     }
 }
 
@@ -334,22 +402,26 @@ impl<'a> TryFrom<Value<'a>> for &'a [u8] {
     type Error = Mismatch;
 
     fn try_from(value: Value<'a>) -> Result<Self, Mismatch> {
-        match value {
-            Value::Binary(bytes) => Ok(bytes),
-            other => Err(Mismatch { wanted: Kind::Binary, found: other.kind() }),
-        }
+        of_kind!(value, Binary)
     }
 }
 
-/// The bytes of a UUID.
+/// The bytes of a binary.
+#[cfg(feature = "alloc")]
+impl TryFrom<Value<'_>> for Vec<u8> {
+    type Error = Mismatch;
+
+    fn try_from(value: Value<'_>) -> Result<Self, Mismatch> {
+        <&[u8]>::try_from(value).map(ToOwned::to_owned)
+    }
+}
+
+/// The bytes of a decimal128, most significant first. A UUID is turned into a [`Uuid`].
 impl TryFrom<Value<'_>> for [u8; 16] {
     type Error = Mismatch;
 
     fn try_from(value: Value<'_>) -> Result<Self, Mismatch> {
-        match value {
-            Value::Uuid(bytes) => Ok(bytes),
-            other => Err(Mismatch { wanted: Kind::Uuid, found: other.kind() }),
-        }
+        of_kind!(value, Decimal128)
     }
 }
 
@@ -364,7 +436,7 @@ pub struct Mismatch {
 
 impl fmt::Display for Mismatch {
     fn fmt(&self, f: &mut fmt::Formatter<'_>) -> fmt::Result {
-        write!(f, "a {} is wanted and a {} found", self.wanted, self.found)
+        write!(f, "{} is wanted and {} found", self.wanted.with_article(), self.found.with_article())
     }
 }
 

@@ -124,7 +124,7 @@ fn an_array_at_the_last_level() {
 #[test]
 fn the_order_of_the_writer_at_the_last_level() {
     let within = |limit, words: &[u64]| {
-        Form::Within(limit).bytes_of(&Table::from_parts(words.to_vec(), vec![])).map_err(|r| (r.number, r.place))
+        Form::Within(limit).bytes_of(&Table::from_parts(words.to_vec(), vec![])).map_err(|r| (r.number(), r.place()))
     };
     // Odd words, a missing row and an unknown kind come before the level; all else of the row comes behind it.
     assert_eq!(within(1, &[0xd0, 1, 0x40]), Err((1, 0)));
@@ -168,7 +168,9 @@ fn steps_of_the_walker() {
         }
         let mut values = Form::Within(limit).values(bytes);
         assert!(values.size_hint().0 <= 1 && values.size_hint().1 >= Some(1), "{limit}");
-        assert_eq!((values.next(), values.next(), values.size_hint()), (Some(Err(due)), None, (0, Some(0))), "{limit}");
+        let refused = values.next().unwrap().unwrap_err();
+        assert_eq!((refused.refusal(), refused.index(), refused.start()), (due, 0, 0), "{limit}");
+        assert_eq!((values.next(), values.size_hint()), (None, (0, Some(0))), "{limit}");
     }
 }
 
@@ -180,7 +182,7 @@ fn what_a_user_is_told() {
     // A limit is the caller's own, so it is no fault of the bytes that are read.
     for refusal in [deep.to_bytes_within(33).unwrap_err(), Table::from_bytes_within(0, &[0x40]).unwrap_err()] {
         assert_eq!(refusal.to_string(), "the level limit has to be from 1 to 32 (15)");
-        assert_eq!((refusal.row(), refusal.offset(), refusal.place), (None, None, 0));
+        assert_eq!((refusal.row(), refusal.offset(), refusal.place()), (None, None, 0));
         assert_eq!(std::io::Error::from(refusal).kind(), std::io::ErrorKind::InvalidInput);
     }
 }

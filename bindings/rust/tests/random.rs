@@ -75,7 +75,7 @@ impl Chance {
     }
 
     /// Puts in a value of this kind at this level.
-    fn put(&mut self, t: &mut Builder, kind: Kind, level: usize) {
+    fn put(&mut self, t: &Builder, kind: Kind, level: usize) {
         let n = self.number();
         match kind {
             Kind::Null => t.null(),
@@ -129,7 +129,7 @@ impl Chance {
         }
     }
 
-    fn any(&mut self, t: &mut Builder, level: usize) {
+    fn any(&mut self, t: &Builder, level: usize) {
         let kind = self.kind(level, false, false);
         self.put(t, kind, level);
     }
@@ -142,15 +142,15 @@ impl Chance {
     }
 
     /// A value of this kind, with parents one in the other below it, so many levels down.
-    fn down(&mut self, t: &mut Builder, kind: Kind, depth: usize, level: usize) {
+    fn down(&mut self, t: &Builder, kind: Kind, depth: usize, level: usize) {
         if depth == 0 {
             return self.put(t, kind, level);
         }
         let below = self.kind(level + 1, depth > 1, kind == Kind::Array);
         match kind {
             Kind::List => t.list(|t| self.down(t, below, depth - 1, level + 1)),
-            Kind::Map => t.map(|t| self.down(t.null(), below, depth - 1, level + 1)),
-            Kind::Described => t.described(|t| self.down(t.ulong(36), below, depth - 1, level + 1)),
+            Kind::Map => t.map(|t| self.down(&t.null(), below, depth - 1, level + 1)),
+            Kind::Described => t.described(|t| self.down(&t.ulong(36), below, depth - 1, level + 1)),
             _ => t.array(below, |t| {
                 // Beside it are elements that have no children, before and behind it.
                 (0..self.below(2)).for_each(|_| self.put(t, below, LEVELS));
@@ -211,7 +211,7 @@ struct Arrays {
 impl Arrays {
     fn see(&mut self, row: Row<'_>, level: usize, inside: bool) {
         let element = row.element_kind();
-        assert_eq!(element.is_some(), row.kind == Kind::Array.code());
+        assert_eq!(element.is_some(), row.kind() == Some(Kind::Array));
         if inside {
             self.deepest = self.deepest.max(level);
         }
@@ -219,7 +219,7 @@ impl Arrays {
             self.of.entry(kind).or_default()[usize::from(row.count() == 0)] += 1;
         }
         for child in row.children() {
-            assert!(element.map_or(true, |kind| kind.code() == child.kind));
+            assert!(element.map_or(true, |kind| Some(kind) == child.kind()));
             self.see(child, level + 1, inside || element.is_some());
         }
     }
@@ -246,10 +246,10 @@ fn tables_there_and_back() {
         assert!(out.iter().all(|&byte| byte == BYTE));
         let (mut words, mut text) = (table.words().to_vec(), table.text().to_vec());
         words.pop();
-        assert_eq!(MOST.read(&bytes, &mut words, &mut text).map_err(|refusal| refusal.number), Err(13));
+        assert_eq!(MOST.read(&bytes, &mut words, &mut text).map_err(|refusal| refusal.number()), Err(13));
         words.push(0);
         if text.pop().is_some() {
-            assert_eq!(MOST.read(&bytes, &mut words, &mut text).map_err(|refusal| refusal.number), Err(14));
+            assert_eq!(MOST.read(&bytes, &mut words, &mut text).map_err(|refusal| refusal.number()), Err(14));
         }
         let front = chance.below(bytes.len());
         assert_eq!(MOST.measure(&bytes[..front]).map_err(|refusal| refusal.reason()), Err(Reason::InputShort));
@@ -284,9 +284,9 @@ fn tables_and_bytes_within_each_limit() {
         seen.extend(due);
 
         chance.damage(&mut bytes);
-        refused.extend(within_each(|form| form.table_of(&bytes)).0.err().map(|refusal| refusal.number));
+        refused.extend(within_each(|form| form.table_of(&bytes)).0.err().map(|refusal| refusal.number()));
         let table = chance.damaged(table);
-        refused.extend(within_each(|form| form.bytes_of(&table)).0.err().map(|refusal| refusal.number));
+        refused.extend(within_each(|form| form.bytes_of(&table)).0.err().map(|refusal| refusal.number()));
     }
     assert!(seen.into_iter().eq(1..=32), "a table of each number of levels");
     assert!([1, 2, 4, 5, 6, 9, 10, 11, 12].iter().all(|number| refused.contains(number)), "{refused:?}");
@@ -363,7 +363,7 @@ fn bytes_by_chance() {
             Ok((table, _)) => {
                 accepted += 1;
                 assert_eq!(table.values().unwrap().into_iter().collect::<Table>(), table);
-                let not_told = table.rows().find(|row| (row.kind, row.number) == (Kind::Array.code(), 0));
+                let not_told = table.rows().find(|row| (row.kind(), row.number) == (Some(Kind::Array), 0));
                 match (MOST.bytes_of(&table), not_told) {
                     (Ok(bytes), None) => assert_eq!(MOST.table_of(&bytes), Ok((table, bytes.len()))),
                     (Err(refusal), Some(row)) => {
@@ -373,7 +373,7 @@ fn bytes_by_chance() {
                 }
             }
             Err(refusal) => {
-                refused[usize::from(refusal.number)] += 1;
+                refused[usize::from(refusal.number())] += 1;
                 assert!(refusal.offset().is_some_and(|offset| offset <= bytes.len() as u64));
             }
         }
@@ -412,7 +412,7 @@ fn damaged_arrays() {
                 assert_eq!(extent.length, bytes.len());
             }
             Err(refusal) => {
-                refused[usize::from(refusal.number)] += 1;
+                refused[usize::from(refusal.number())] += 1;
                 let offset = refusal.offset().unwrap() as usize;
                 if refusal.reason() == Reason::PayloadBad && offset != start {
                     assert!(offset > body && bytes[offset] >= 0x80, "{refusal} of {bytes:x?}");
@@ -445,7 +445,7 @@ fn tables_by_chance() {
                 assert_eq!(MOST.table_of(&bytes), Ok((table, bytes.len())));
             }
             Err(refusal) => {
-                refused[usize::from(refusal.number)] += 1;
+                refused[usize::from(refusal.number())] += 1;
                 if let Some(byte) = refusal.text_byte() {
                     let row = table.row_of_text_byte(byte).unwrap();
                     assert_eq!(row.value().err(), Some(refusal), "{table:?}");

@@ -24,7 +24,7 @@ fn each_form(due: Refusal) -> impl Iterator<Item = (Form, Refusal)> {
 fn writing(words: &[u64], text: &[u8], reason: Reason, row: u64) {
     let due = Refusal::writing(reason, row);
     refused(&Table::from_parts(words.to_vec(), text.to_vec()), due);
-    assert_eq!((due.number, due.place, due.task()), (reason.number(), row, Task::Writing));
+    assert_eq!((due.number(), due.place(), due.task()), (reason.number(), row, Task::Writing));
 }
 
 fn refused(table: &Table, due: Refusal) {
@@ -38,7 +38,7 @@ fn bad_text(words: &[u64], text: &[u8], byte: u64, row: usize) {
     let table = Table::from_parts(words.to_vec(), text.to_vec());
     let due = Refusal::bad_text(byte);
     refused(&table, due);
-    assert_eq!((due.number, due.place, due.task()), (6, byte, Task::Writing));
+    assert_eq!((due.number(), due.place(), due.task()), (6, byte, Task::Writing));
     let found = table.row_of_text_byte(byte).unwrap();
     assert_eq!((found.index, found.value(), table.values()), (row, Err(due), Err(due)), "{table:?}");
 }
@@ -49,7 +49,7 @@ fn reading(bytes: &[u8], reason: Reason, offset: u64) {
         assert_eq!(form.table_of(bytes), Err(due), "{form:?} {bytes:x?}");
     }
     let due = Refusal::reading(reason, offset);
-    assert_eq!((due.number, due.place, due.task()), (reason.number(), offset, Task::Reading));
+    assert_eq!((due.number(), due.place(), due.task()), (reason.number(), offset, Task::Reading));
 }
 
 #[test]
@@ -339,7 +339,8 @@ fn bad_text_11() {
 
 #[test]
 fn bad_text_11_behind_other_values() {
-    // Null, string M4, and a list with a bad symbol: its place is counted from where the walker stays.
+    // Null, string M4, and a list with a bad symbol: its place is counted from where the walker stays, and by the iterator in
+    // all bytes.
     let bytes = [0x40, 0xa1, 0x02, 0x4d, 0x34, 0xc0, 0x05, 0x01, 0xa3, 0x02, b'v', 0xff];
     for form in forms(16).into_iter().chain(forms(32)) {
         let mut walker = form.walker(&bytes, 0);
@@ -349,7 +350,9 @@ fn bad_text_11_behind_other_values() {
             assert_eq!(walker.offset(), 5);
         }
         let mut values = form.values(&bytes);
-        assert_eq!(values.nth(2), Some(Err(Refusal::reading(Reason::PayloadBad, 6))));
+        let refused = values.nth(2).unwrap().unwrap_err();
+        assert_eq!(refused.refusal(), Refusal::reading(Reason::PayloadBad, 11));
+        assert_eq!((refused.index(), refused.start()), (2, 5));
         assert_eq!((values.offset(), values.next()), (5, None));
     }
 }

@@ -97,7 +97,7 @@ fn answer(field: &str) -> Result<&str, (u8, u64)> {
 }
 
 fn told(refusal: Refusal) -> (u8, u64) {
-    (refusal.number, refusal.place)
+    (refusal.number(), refusal.place())
 }
 
 fn sized(form: Form, fields: &[&str]) {
@@ -188,7 +188,7 @@ fn listed(fields: &[&str]) {
     let input = bytes(fields[0]);
     let output = match Form::Within(32).table_of(&input) {
         Ok((table, length)) => format!("{table}end {length}\n"),
-        Err(refusal) => format!("refused {} {}\n", refusal.number, refusal.place),
+        Err(refusal) => format!("refused {} {}\n", refusal.number(), refusal.place()),
     };
     let due = fields[1..].join(" ").replace('/', "\n");
     assert!(output == due || due == "input too large\n" && input.len() > 4096, "{fields:?}");

@@ -2,7 +2,9 @@
 use std::fs;
 use std::path::Path;
 
-use afsungar::{read, values, Builder, Element, Extent, Kind, Mismatch, Reason, Refusal, Row, Table, Value, Walker};
+use afsungar::{
+    read, values, Builder, Element, Extent, Kind, Mismatch, Reason, Refusal, Row, Table, Timestamp, Uuid, Value, Walker,
+};
 
 fn all_kinds() -> Table {
     Table::build(|t| {
@@ -48,8 +50,8 @@ fn all_values() -> Vec<Value<'static>> {
         Decimal64(u64::MAX - 1),
         Decimal128([9; 16]),
         Char('Ø'),
-        Timestamp(-1),
-        Uuid(*b"0123456789abcdef"),
+        Value::Timestamp(afsungar::Timestamp(-1)),
+        Value::Uuid(afsungar::Uuid::from_bytes(*b"0123456789abcdef")),
         Binary(&[0xff, 0x00]),
         String("Ø1.2"),
         Symbol("ear-shell"),
@@ -331,7 +333,7 @@ fn arrays_that_do_not_tell_their_kind() {
 
 #[test]
 fn the_type_tells_the_kind() {
-    fn told<'a, E: Element<'a>>(kind: Kind) {
+    fn told<E: Element>(kind: Kind) {
         let none = Table::build(|t| {
             t.array_of::<E>([]);
         });
@@ -357,8 +359,12 @@ fn the_type_tells_the_kind() {
     told::<&str>(Kind::String);
     told::<&String>(Kind::String);
     told::<&[u8]>(Kind::Binary);
-    told::<&[u8; 3]>(Kind::Binary);
     told::<&Vec<u8>>(Kind::Binary);
+    told::<String>(Kind::String);
+    told::<std::borrow::Cow<'_, str>>(Kind::String);
+    told::<Vec<u8>>(Kind::Binary);
+    told::<Timestamp>(Kind::Timestamp);
+    told::<Uuid>(Kind::Uuid);
 
     // The values of a type have the kind that it tells.
     let (string, bytes) = (String::from("M4"), vec![7]);
@@ -367,10 +373,11 @@ fn the_type_tells_the_kind() {
             t.array_of([true]).array_of([1u8]).array_of([1u16]).array_of([1u32]).array_of([1u64]);
             t.array_of([1i8]).array_of([1i16]).array_of([1i32]).array_of([1i64]).array_of([1f32]).array_of([1f64]);
             t.array_of(['Ø']).array_of(["M4"]).array_of([&string]);
-            t.array_of([&bytes[..]]).array_of([b"abc"]).array_of([&bytes]);
+            t.array_of([&bytes[..]]).array_of([&bytes]).array_of([bytes.clone()]).array_of([string.clone()]);
+            t.array_of([Timestamp(-1)]).array_of([Uuid::default()]);
         });
     });
-    assert_eq!(arrays.root().map(|list| list.count()), Some(17));
+    assert_eq!(arrays.root().map(|list| list.count()), Some(20));
     assert_eq!(Table::from_bytes(&arrays.to_bytes().unwrap()), Ok(arrays));
 }
 
@@ -410,11 +417,15 @@ fn negative_numbers_have_their_own_width() {
     assert_eq!(number(Value::Short(-1)), 0xffff);
     assert_eq!(number(Value::Int(-1)), 0xffff_ffff);
     assert_eq!(number(Value::Long(-1)), u64::MAX);
-    assert_eq!(number(Value::Timestamp(-1)), u64::MAX);
+    assert_eq!(number(Value::Timestamp(Timestamp(-1))), u64::MAX);
     for n in [i64::MIN, -129, -128, -1, 0, 127, 128, i64::MAX] {
-        for value in
-            [Value::Long(n), Value::Timestamp(n), Value::Int(n as i32), Value::Short(n as i16), Value::Byte(n as i8)]
-        {
+        for value in [
+            Value::Long(n),
+            Value::Timestamp(Timestamp(n)),
+            Value::Int(n as i32),
+            Value::Short(n as i16),
+            Value::Byte(n as i8),
+        ] {
             let bytes = Table::from(value).to_bytes().unwrap();
             assert_eq!(Table::from_bytes(&bytes).unwrap().values(), Ok(vec![value]));
         }
@@ -448,8 +459,8 @@ fn conversions() {
     let table = Table::build(|t| {
         t.list(|t| {
             t.push(true).push(1u8).push(2u16).push(3u32).push(4u64).push(-1i8).push(-2i16).push(-3i32).push(-4i64);
-            t.push(0.5f32).push(0.25f64).push('x').push("text").push(&String::from("owned")).push(b"bytes");
-            t.push(&[1u8, 2][..]).push(&vec![3u8]).push(()).push(None::<u32>).push(Some("some"));
+            t.push(0.5f32).push(0.25f64).push('x').push("text").push(String::from("owned")).push(&b"bytes"[..]);
+            t.push(&[1u8, 2][..]).push(vec![3u8]).push(()).push(None::<u32>).push(Some("some"));
         });
     });
     let table = Table::from_bytes(&table.to_bytes().unwrap()).unwrap();
@@ -467,18 +478,22 @@ fn conversions() {
     assert_eq!(<&[u8]>::try_from(o), Ok(&b"bytes"[..]));
     assert_eq!((p, q, r), (Value::Binary(&[1, 2]), Value::Binary(&[3]), Value::String("some")));
     assert_eq!(<&str>::try_from(Value::Symbol("s")), Ok("s"));
-    assert_eq!(<[u8; 16]>::try_from(Value::Uuid([7; 16])), Ok([7; 16]));
-    assert_eq!(
-        <[u8; 16]>::try_from(Value::Binary(&[7; 16])),
-        Err(Mismatch { wanted: Kind::Uuid, found: Kind::Binary })
-    );
+    assert_eq!(String::try_from(m), Ok("text".to_owned()));
+    assert_eq!(Vec::try_from(o), Ok(b"bytes".to_vec()));
+    let uuid = Uuid::from_bytes([7; 16]);
+    assert_eq!(Uuid::try_from(Value::from(uuid)), Ok(uuid));
+    assert_eq!(<[u8; 16]>::try_from(Value::Decimal128([7; 16])), Ok([7; 16]));
+    // 16 bytes are none of the others.
+    for (value, found) in [(Value::Binary(&[7; 16]), Kind::Binary), (Value::Uuid(uuid), Kind::Uuid)] {
+        assert_eq!(<[u8; 16]>::try_from(value), Err(Mismatch { wanted: Kind::Decimal128, found }));
+    }
     assert_eq!(<&[u8]>::try_from(Value::Null), Err(Mismatch { wanted: Kind::Binary, found: Kind::Null }));
     assert_eq!(<&str>::try_from(Value::Null), Err(Mismatch { wanted: Kind::String, found: Kind::Null }));
 }
 
 #[test]
 fn the_writer_says_which_row() {
-    let refused = |build: fn(&mut Builder), reason, row| {
+    let refused = |build: fn(&Builder), reason, row| {
         assert_eq!(Table::build(build).to_bytes(), Err(Refusal::writing(reason, row)));
     };
     refused(|_| {}, Reason::RowsAmiss, 0);
@@ -568,10 +583,10 @@ fn the_writer_says_which_row() {
         Reason::KindUnknown,
         0,
     );
-    // A builder that is put in another's place is no fault of this crate's, and no panic.
+    // A builder that is finished before its time is no fault of this crate's, and no panic.
     refused(
         |t| {
-            t.list(|t| *t = Builder::new());
+            t.list(|t| t.null().finish());
         },
         Reason::RowsAmiss,
         0,
@@ -775,7 +790,7 @@ fn a_table_has_the_memory_that_it_needs() {
     for table in [all_kinds(), Table::from(Value::Null), Table::from(Value::String("M4"))] {
         let bytes = table.to_bytes().unwrap();
         assert_eq!(bytes.capacity(), bytes.len());
-        let (words, text) = afsungar::read_to_table(&bytes).unwrap().into_parts();
+        let (words, text) = Table::from_bytes(&bytes).unwrap().into_parts();
         assert_eq!((words.capacity(), text.capacity()), (words.len(), text.len()));
         assert_eq!(Table::from_parts(words, text), table);
     }
@@ -849,7 +864,8 @@ fn values_end_to_end() {
     assert_eq!(found.size_hint(), (1, Some(8)));
     assert_eq!(found.next(), Some(Ok(&bytes[..1])));
     assert_eq!(found.next(), Some(Ok(&bytes[1..5])));
-    assert_eq!(found.next(), Some(Err(Refusal::reading(Reason::CodeUnknown, 2))));
+    let refused = found.next().unwrap().unwrap_err();
+    assert_eq!((refused.refusal(), refused.index(), refused.start()), (Refusal::reading(Reason::CodeUnknown, 7), 2, 5));
     assert_eq!((found.next(), found.next()), (None, None));
     assert_eq!((found.offset(), found.rest(), found.size_hint()), (5, &bytes[5..], (0, Some(0))));
     let all: Result<Vec<_>, _> = values(&bytes[..5]).collect();

@@ -1,7 +1,7 @@
 //! The worked examples of docs/FORMAT.md, 10. Those of 32 and 33 levels name the limit 32; the others are tried within each.
 mod forms;
 
-use afsungar::{measure, measure_within, read_to_table, size, Builder, Extent, Kind, Reason, Refusal, Table, Value};
+use afsungar::{measure, measure_within, size, Builder, Extent, Kind, Reason, Refusal, Table, Value};
 use forms::within_each;
 
 /// Two hex digits a byte; spaces do not count.
@@ -16,7 +16,7 @@ const fn of(kind: u64, count: u64) -> u64 {
 }
 
 /// Written to these bytes, and read back to the same.
-fn written(words: &[u64], text: &str, bytes: &str, build: impl FnOnce(&mut Builder)) {
+fn written(words: &[u64], text: &str, bytes: &str, build: impl FnOnce(&Builder)) {
     let (text, bytes) = (hex(text), hex(bytes));
     let table = Table::build(build);
     assert_eq!((table.words(), table.text()), (words, &text[..]));
@@ -146,7 +146,7 @@ fn described_empty_list() {
     });
 }
 
-fn lists(t: &mut Builder, levels: usize) {
+fn lists(t: &Builder, levels: usize) {
     t.list(|t| {
         if levels > 1 {
             lists(t, levels - 1);
@@ -169,7 +169,7 @@ fn lists_in_lists() {
     assert_eq!(measure_within(32, &bytes), Err(Refusal::reading(Reason::TooDeep, 96)));
 }
 
-fn arrays(t: &mut Builder, levels: usize) {
+fn arrays(t: &Builder, levels: usize) {
     if levels > 1 {
         t.array(Kind::Array, |t| arrays(t, levels - 1));
     } else {
@@ -263,40 +263,25 @@ fn read_and_refused() {
 
 #[test]
 fn read() {
-    assert_eq!(measure(&hex("40 40")), Ok(Extent { length: 1, rows: 1, text: 0 }));
-    assert_eq!(
-        read_to_table(&hex("40 40")),
-        Ok(Table::build(|t| {
-            t.null();
-        }))
-    );
-    assert_eq!(measure(&hex("e0 02 00 70")), Ok(Extent { length: 4, rows: 1, text: 0 }));
-    assert_eq!(
-        read_to_table(&hex("e0 02 00 70")),
-        Ok(Table::build(|t| {
-            t.empty_array(Kind::Uint);
-        }))
-    );
-    assert_eq!(measure(&hex("e0 01 00")), Ok(Extent { length: 3, rows: 1, text: 0 }));
-    assert_eq!(
-        read_to_table(&hex("e0 01 00")),
-        Ok(Table::build(|t| {
-            t.push(Value::Array { count: 0, element: None });
-        }))
-    );
-    assert_eq!(
-        read_to_table(&hex("e0 07 02 c0 02 01 40 01 00")),
-        Ok(Table::build(|t| {
-            t.array_of_lists([vec![()], vec![]]);
-        }))
-    );
+    let front = Table::from_prefix(&hex("40 40"));
+    assert_eq!(front, Ok((Table::build(|t| t.null()), 1)));
+    assert_eq!(Table::from_bytes(&hex("40 40")), Err(Refusal::reading(Reason::BytesLeft, 1)));
+
+    let whole = |digits: &str, table: Table| {
+        let bytes = hex(digits);
+        assert_eq!(measure(&bytes), Ok(Extent { length: bytes.len(), rows: table.len(), text: table.text().len() }));
+        assert_eq!(Table::from_bytes(&bytes), Ok(table));
+    };
+    whole("e0 02 00 70", Table::build(|t| t.empty_array(Kind::Uint)));
+    whole("e0 01 00", Table::from(Value::Array { count: 0, element: None }));
+    whole("e0 07 02 c0 02 01 40 01 00", Table::build(|t| t.array_of_lists([vec![()], vec![]])));
 }
 
 #[test]
 fn listed() {
     let bytes = hex("c1 06 02 a3 01 76 52 02");
-    let table = read_to_table(&bytes).unwrap();
+    let table = Table::from_bytes(&bytes).unwrap();
     assert_eq!(format!("{table}end {}\n", bytes.len()), "0 d1 2\n1 b3 1\n2 70 2\nend 8\n");
     // An array's number is listed as it is.
-    assert_eq!(read_to_table(&hex("e0 02 00 70")).unwrap().to_string(), "0 f0 481036337152\n");
+    assert_eq!(Table::from_bytes(&hex("e0 02 00 70")).unwrap().to_string(), "0 f0 481036337152\n");
 }

@@ -42,7 +42,7 @@ pub fn within_each<T: PartialEq + Debug>(
         }
     }
     for limit in OUTSIDE {
-        let outside = answer(Form::Within(limit)).map_err(|refusal| (refusal.reason(), refusal.place));
+        let outside = answer(Form::Within(limit)).map_err(|refusal| (refusal.reason(), refusal.place()));
         assert_eq!(outside, Err((Reason::LimitOutside, 0)), "{limit}");
     }
     (highest, enough)
@@ -92,7 +92,7 @@ impl Form {
         // A 6 has to say whether its place is a row or a byte of the text.
         if let Some(refusal) = length.err().filter(|refusal| refusal.reason() == Reason::TextAmiss) {
             let due =
-                bad_text(words, text).map_or(Refusal::writing(Reason::TextAmiss, refusal.place), Refusal::bad_text);
+                bad_text(words, text).map_or(Refusal::writing(Reason::TextAmiss, refusal.place()), Refusal::bad_text);
             assert_eq!(refusal, due, "{words:x?} {text:x?}");
         }
         length
@@ -114,10 +114,10 @@ impl Form {
         // The place of an 11 is the code of a boolean, a char or an array, or it is a byte of a text. 0x46 tells which: it is good in
         // every text, and no code.
         if let Some(refusal) = extent.err().filter(|refusal| refusal.reason() == Reason::PayloadBad) {
-            let at = refusal.place as usize;
+            let at = refusal.place() as usize;
             let mended = [&bytes[..at], &[0x46], &bytes[at + 1..]].concat();
             match measured(&mended) {
-                Err(no_code) if no_code == Refusal::reading(Reason::CodeUnknown, refusal.place) => {
+                Err(no_code) if no_code == Refusal::reading(Reason::CodeUnknown, refusal.place()) => {
                     assert!([0x56, 0x73, 0xe0, 0xf0].contains(&bytes[at]), "{refusal} of {bytes:x?}");
                 }
                 other => assert!(bytes[at] >= 0x80 && other != extent, "{refusal} of {bytes:x?}"),
@@ -188,19 +188,25 @@ impl Form {
         let table = Table::from_parts(words, text);
         let before = Table::from(Value::String("before"));
         let mut over = before.clone();
-        let (parsed, same, again) = match self {
-            Form::Plain => (Table::from_bytes(bytes), read_to_table(bytes), over.read_from(bytes)),
+        let (front, whole, again) = match self {
+            Form::Plain => (Table::from_prefix(bytes), Table::from_bytes(bytes), over.read_from(bytes)),
             Form::Within(limit) => (
+                Table::from_prefix_within(limit, bytes),
                 Table::from_bytes_within(limit, bytes),
-                read_to_table_within(limit, bytes),
                 over.read_from_within(limit, bytes),
             ),
         };
         assert_eq!(again, extent);
-        assert!(parsed == same && over == *parsed.as_ref().unwrap_or(&before), "{bytes:x?}");
-        assert!(parsed == extent.map(|_| table), "{bytes:x?}");
+        assert!(over == *front.as_ref().map_or(&before, |(table, _)| table), "{bytes:x?}");
+        assert!(front == extent.map(|extent| (table, extent.length)), "{bytes:x?}");
+        // Bytes behind the value are refused where it was to be all there is.
+        let all = front.clone().and_then(|(table, length)| match bytes.len() - length {
+            0 => Ok(table),
+            _ => Err(Refusal::reading(Reason::BytesLeft, length as u64)),
+        });
+        assert!(whole == all, "{bytes:x?}");
         self.steps_as(bytes, extent);
-        Ok((parsed?, extent?.length))
+        front
     }
 
     /// A first step as measuring says, but done where there are no bytes.
@@ -213,6 +219,7 @@ impl Form {
         let mut walker = self.walker(bytes, 0);
         assert!(walker.step() == due, "{bytes:x?}");
         assert_eq!(walker.offset(), extent.map_or(0, |extent| extent.length));
-        assert!(self.values(bytes).next() == due, "{bytes:x?}");
+        let first = self.values(bytes).next().map(|value| value.map_err(|refused| refused.refusal()));
+        assert!(first == due, "{bytes:x?}");
     }
 }
