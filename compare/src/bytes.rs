@@ -298,7 +298,7 @@ impl Judge {
     fn step_of_wrapper(&mut self, stream: &[u8], at: usize, step: &Told) {
         let agrees = match afsungar::Walker::at(stream, at).step() {
             Some(Ok(value)) => step.is_success() && value == &stream[at..at + step.length as usize],
-            Some(Err(refusal)) => *step == Told::refusal(refusal.number as u64, refusal.place),
+            Some(Err(refusal)) => *step == Told::refusal(refusal.number().into(), refusal.place()),
             None => false,
         };
         self.hold("the Rust wrapper's walker agrees", agrees, &stream[at..], step);
@@ -335,6 +335,6 @@ impl Judge {
 fn told_by<T>(answer: Result<T, afsungar::Refusal>, success: impl FnOnce(T) -> Told) -> Told {
     match answer {
         Ok(extent) => success(extent),
-        Err(refusal) => Told::refusal(refusal.number as u64, refusal.place),
+        Err(refusal) => Told::refusal(refusal.number().into(), refusal.place()),
     }
 }

@@ -1,6 +1,7 @@
 //! The proved library as it is called from C, with everything that a call tells.
 
 use crate::{limit::Limit, table::Table};
+use afsungar::raw;
 use std::fmt;
 
 /// All that a call hands back. What a call does not tell stays 0.
@@ -55,22 +56,17 @@ const STALE: u64 = 0xdead_beef_dead_beef;
 pub const PATTERN: u8 = 0xa5;
 pub const PATTERN_WORD: u64 = u64::from_ne_bytes([PATTERN; 8]);
 
-/// Calls a function of the library in one of its two forms, which differ in the limit before all else that is lent. They are declared here, after
-/// docs/FORMAT.md, 6 and 7: the declarations of the Rust crate are part of what is compared.
+/// Calls a function of the library in one of its two forms, which differ in the limit before all else that is lent.
 macro_rules! call {
-    ($limit:expr, $plain:ident, $within:ident, $($name:ident: $type:ty = $lent:expr),* $(,)?) => {{
-        extern "C" {
-            fn $plain($($name: $type),*) -> u64;
-            fn $within(limit: u64, $($name: $type),*) -> u64;
-        }
+    ($limit:expr, $plain:ident, $within:ident, $($lent:expr),* $(,)?) => {
         // SAFETY: pointers and lengths are those of slices, and what is written to is lent to the call alone.
         unsafe {
             match $limit {
-                Limit::Plain => $plain($($lent),*),
-                Limit::Within(levels) => $within(levels, $($lent),*),
+                Limit::Plain => raw::$plain($($lent),*),
+                Limit::Within(levels) => raw::$within(levels, $($lent),*),
             }
         }
-    }};
+    };
 }
 
 pub fn size(limit: Limit, table: &Table) -> Told {
@@ -79,12 +75,12 @@ pub fn size(limit: Limit, table: &Table) -> Told {
         limit,
         afsungar_size,
         afsungar_size_within,
-        words: *const u64 = table.words.as_ptr(),
-        words_len: usize = table.words.len(),
-        text: *const u8 = table.text.as_ptr(),
-        text_len: usize = table.text.len(),
-        place: &mut u64 = &mut place,
-        length: &mut u64 = &mut length,
+        table.words.as_ptr(),
+        table.words.len(),
+        table.text.as_ptr(),
+        table.text.len(),
+        &mut place,
+        &mut length,
     );
     Told { number, place, length, ..Told::default() }
 }
@@ -95,14 +91,14 @@ pub fn write(limit: Limit, table: &Table, out: &mut [u8]) -> Told {
         limit,
         afsungar_write,
         afsungar_write_within,
-        words: *const u64 = table.words.as_ptr(),
-        words_len: usize = table.words.len(),
-        text: *const u8 = table.text.as_ptr(),
-        text_len: usize = table.text.len(),
-        out: *mut u8 = out.as_mut_ptr(),
-        out_len: usize = out.len(),
-        place: &mut u64 = &mut place,
-        length: &mut u64 = &mut length,
+        table.words.as_ptr(),
+        table.words.len(),
+        table.text.as_ptr(),
+        table.text.len(),
+        out.as_mut_ptr(),
+        out.len(),
+        &mut place,
+        &mut length,
     );
     Told { number, place, length, ..Told::default() }
 }
@@ -113,12 +109,12 @@ pub fn measure(limit: Limit, bytes: &[u8]) -> Told {
         limit,
         afsungar_measure,
         afsungar_measure_within,
-        bytes: *const u8 = bytes.as_ptr(),
-        len: usize = bytes.len(),
-        place: &mut u64 = &mut place,
-        length: &mut u64 = &mut length,
-        rows: &mut u64 = &mut rows,
-        text: &mut u64 = &mut text,
+        bytes.as_ptr(),
+        bytes.len(),
+        &mut place,
+        &mut length,
+        &mut rows,
+        &mut text,
     );
     Told { number, place, length, rows, text }
 }
@@ -129,16 +125,16 @@ pub fn read(limit: Limit, bytes: &[u8], words: &mut [u64], text: &mut [u8]) -> T
         limit,
         afsungar_read,
         afsungar_read_within,
-        bytes: *const u8 = bytes.as_ptr(),
-        len: usize = bytes.len(),
-        words: *mut u64 = words.as_mut_ptr(),
-        words_len: usize = words.len(),
-        text: *mut u8 = text.as_mut_ptr(),
-        text_len: usize = text.len(),
-        place: &mut u64 = &mut place,
-        length: &mut u64 = &mut length,
-        rows: &mut u64 = &mut rows,
-        text_used: &mut u64 = &mut used,
+        bytes.as_ptr(),
+        bytes.len(),
+        words.as_mut_ptr(),
+        words.len(),
+        text.as_mut_ptr(),
+        text.len(),
+        &mut place,
+        &mut length,
+        &mut rows,
+        &mut used,
     );
     Told { number, place, length, rows, text: used }
 }
@@ -146,16 +142,8 @@ pub fn read(limit: Limit, bytes: &[u8], words: &mut [u64], text: &mut [u8]) -> T
 /// A step of the walker from `at`, and where it then is.
 pub fn step(limit: Limit, bytes: &[u8], from: u64) -> (Told, u64) {
     let (mut at, mut place, mut length) = (from, STALE, STALE);
-    let number = call!(
-        limit,
-        afsungar_step,
-        afsungar_step_within,
-        bytes: *const u8 = bytes.as_ptr(),
-        len: usize = bytes.len(),
-        at: &mut u64 = &mut at,
-        place: &mut u64 = &mut place,
-        length: &mut u64 = &mut length,
-    );
+    let number =
+        call!(limit, afsungar_step, afsungar_step_within, bytes.as_ptr(), bytes.len(), &mut at, &mut place, &mut length);
     (Told { number, place, length, ..Told::default() }, at)
 }
 

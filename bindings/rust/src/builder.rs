@@ -57,7 +57,7 @@ impl Parts {
 
     fn enter(&mut self, kind: u64, number: u64) {
         self.one();
-        self.words.extend([kind, number]);
+        self.words.extend_from_slice(&[kind, number]);
     }
 
     /// One more value at this level, or one less due.
@@ -372,21 +372,27 @@ impl Builder {
     pub fn map_of<K: ToValue, V: ToValue>(&self, entries: impl IntoIterator<Item = (K, V)>) -> Self {
         self.map(|t| {
             for (key, value) in entries {
-                t.push(key).push(value);
+                t.put(&key);
+                t.put(&value);
             }
         })
     }
 
     /// One value. Behind one that has children, they are the values that come next.
     pub fn push(&self, value: impl ToValue) -> Self {
+        self.put(&value);
+        self.same()
+    }
+
+    fn put(&self, value: &impl ToValue) {
         let value = value.to_value();
-        self.row(value.kind().code(), value.number(), value.text())
+        self.parts.borrow_mut().row(value.kind().code(), value.number(), value.text());
     }
 
     /// These values, one after the other.
     pub fn extend<V: ToValue>(&self, values: impl IntoIterator<Item = V>) -> Self {
         for value in values {
-            self.push(value);
+            self.put(&value);
         }
         self.same()
     }

@@ -48,8 +48,7 @@
 //! # }
 //! ```
 //!
-//! What is refused in writing is told in the builder's own terms by [`Table::explain`]: `$.vents[2]: a string of text in an array
-//! of int`.
+//! What is refused in writing is told in the builder's own terms by [`Table::explain`]: `$.vents[2]: a string in an array of int`.
 //!
 //! Underneath are four functions that work on lent memory and allocate nothing: [`size`], [`write`](write()), [`measure`]
 //! and [`read`]; and the [`Walker`], which goes through values that stand end to end. [`values`] is an iterator that does
@@ -114,12 +113,19 @@
 //! The library's functions in C: for each input, exactly which answer they give and which bytes and words they leave. This
 //! crate is ordinary Rust around them: it hands over slices, makes a [`Refusal`] of a number, and keeps tables in vectors.
 #![cfg_attr(not(feature = "std"), no_std)]
+// What is documented here links to what these features bring.
+#![cfg_attr(not(feature = "std"), allow(rustdoc::broken_intra_doc_links))]
 #![forbid(unsafe_op_in_unsafe_fn)]
 #![deny(unsafe_code)]
 #![warn(missing_docs, clippy::undocumented_unsafe_blocks, clippy::missing_errors_doc)]
 
 #[cfg(feature = "alloc")]
 extern crate alloc;
+
+/// The examples of README.md.
+#[cfg(doctest)]
+#[doc = include_str!("../README.md")]
+struct Readme;
 
 #[cfg(not(target_pointer_width = "64"))]
 compile_error!("the library is for 64-bit processors");
