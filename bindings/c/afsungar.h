@@ -1,6 +1,6 @@
 /* Afsungar: AMQP 1.0 values to bytes and back. docs/FORMAT.md says what a table is, which bytes it has and what is refused.
  *
- * Link with libexport.a, which `rt staticlib export` makes (x86-64):   cc program.c libexport.a
+ * `make -C bindings/c install` makes the library, on x86-64 and on Arm. Then:   cc program.c $(pkg-config --cflags --libs afsungar)
  *
  * A table is words, two to a row (kind, number), the parent first, and beside them the text: the bytes of all rows that have
  * some, in the order of the rows. Each child stands with all that is below it before the next, in lists, maps and arrays alike.
@@ -37,8 +37,8 @@
  *
  * What is lent
  *   - A length counts what is lent: words_len counts words, so rows times 2; all other lengths count bytes.
- *   - No pointer may be null, not even where its length is 0: what is promised is promised of memory that is lent. To lend
- *     nothing, point to anything of the type and give 0 as the length; nothing is then read or written there.
+ *   - A pointer that goes with a length may be null, or point anywhere, where the length is 0: nothing is then read or written
+ *     there. No other pointer may be null: every answer is stored.
  *   - Words and answers are uint64_t, aligned as such.
  *   - Memory that is filled (out, words and text in reading, and every answer) must not overlap other memory that is lent to
  *     the same call.
@@ -56,6 +56,23 @@
 
 #ifdef __cplusplus
 extern "C" {
+#endif
+
+/* The version of this header and its library. */
+#define AFSUNGAR_VERSION_MAJOR 0
+#define AFSUNGAR_VERSION_MINOR 1
+#define AFSUNGAR_VERSION_PATCH 0
+#define AFSUNGAR_VERSION "0.1.0"
+
+/* In front of each function that may refuse: a call whose result is not used is warned about. */
+#if defined(__cplusplus) && __cplusplus >= 201703L
+#define AFSUNGAR_NODISCARD [[nodiscard]]
+#elif defined(__STDC_VERSION__) && __STDC_VERSION__ >= 202311L
+#define AFSUNGAR_NODISCARD [[nodiscard]]
+#elif defined(__GNUC__)
+#define AFSUNGAR_NODISCARD __attribute__((warn_unused_result))
+#else
+#define AFSUNGAR_NODISCARD
 #endif
 
 /* The refusals (docs/FORMAT.md, 5), W in sizing and writing, R in measuring, reading and steps. All places are counted from 0.
@@ -110,6 +127,29 @@ enum afsungar_refusal {
     AFSUNGAR_LIMIT_OUTSIDE = 15
 };
 
+/* What a refusal says, in a phrase; where it is, the table above says. */
+static inline const char *afsungar_refusal_text(uint64_t number) {
+    switch (number) {
+    case 0: return "no refusal";
+    case AFSUNGAR_ROWS_AMISS: return "a row is missing or left over";
+    case AFSUNGAR_KIND_UNKNOWN: return "the kind is not one of the 25";
+    case AFSUNGAR_TOO_DEEP: return "a value stands deeper than the level limit of the call";
+    case AFSUNGAR_ELEMENT_UNFIT: return "an array tells a kind that it cannot hold, or an element has another one";
+    case AFSUNGAR_NUMBER_OUTSIDE: return "the number is not one that the row's kind allows";
+    case AFSUNGAR_TEXT_AMISS: return "text is missing or left over, or a string is not UTF-8 or a symbol not ASCII";
+    case AFSUNGAR_TOO_LONG: return "more than 1,048,576 bytes would be written";
+    case AFSUNGAR_OUTPUT_SHORT: return "the output is too short";
+    case AFSUNGAR_INPUT_SHORT: return "a value goes on beyond its bytes";
+    case AFSUNGAR_CODE_UNKNOWN: return "the format code is not one of the 40";
+    case AFSUNGAR_PAYLOAD_BAD: return "a boolean, char, string or symbol is not valid";
+    case AFSUNGAR_SIZE_AMISS: return "a size or count does not fit its body";
+    case AFSUNGAR_ROWS_SHORT: return "the room for rows is too small";
+    case AFSUNGAR_TEXT_SHORT: return "the room for text is too small";
+    case AFSUNGAR_LIMIT_OUTSIDE: return "the level limit has to be from 1 to 32";
+    default: return "not the number of a refusal";
+    }
+}
+
 /* The level limit: the least and the most that a call may name, and that of a call which names none. */
 #define AFSUNGAR_LEVELS_LEAST 1
 #define AFSUNGAR_LEVELS_MOST 32
@@ -158,29 +198,37 @@ enum afsungar_kind {
 /* The functions, each in its two forms. Beside the refusals that are named here, a form that takes the limit has 15. */
 
 /* The number of bytes that afsungar_write writes. Refusals: 1 to 7. */
+AFSUNGAR_NODISCARD
 uint64_t afsungar_size(const uint64_t *words, size_t words_len, const uint8_t *text, size_t text_len,
                        uint64_t *place, uint64_t *length);
+AFSUNGAR_NODISCARD
 uint64_t afsungar_size_within(uint64_t limit, const uint64_t *words, size_t words_len, const uint8_t *text, size_t text_len,
                               uint64_t *place, uint64_t *length);
 
 /* Writes a table's bytes to the start of out. *length: their number. Refusals: 1 to 8. */
+AFSUNGAR_NODISCARD
 uint64_t afsungar_write(const uint64_t *words, size_t words_len, const uint8_t *text, size_t text_len,
                         uint8_t *out, size_t out_len, uint64_t *place, uint64_t *length);
+AFSUNGAR_NODISCARD
 uint64_t afsungar_write_within(uint64_t limit, const uint64_t *words, size_t words_len, const uint8_t *text, size_t text_len,
                                uint8_t *out, size_t out_len, uint64_t *place, uint64_t *length);
 
 /* Measures the value at the start of bytes: its length, and the rows and bytes of text that reading it fills. Bytes behind the
  * value are not looked at. Refusals: 3, 4, 9 to 12. */
+AFSUNGAR_NODISCARD
 uint64_t afsungar_measure(const uint8_t *bytes, size_t len,
                           uint64_t *place, uint64_t *length, uint64_t *rows, uint64_t *text);
+AFSUNGAR_NODISCARD
 uint64_t afsungar_measure_within(uint64_t limit, const uint8_t *bytes, size_t len,
                                  uint64_t *place, uint64_t *length, uint64_t *rows, uint64_t *text);
 
 /* Reads the value at the start of bytes into words, two to a row, and text. *length: its bytes; *rows and *text_used: what was
  * filled. There is room enough with two words and one byte of text for each byte that is read. Refusals: those of
  * afsungar_measure, 13 and 14. */
+AFSUNGAR_NODISCARD
 uint64_t afsungar_read(const uint8_t *bytes, size_t len, uint64_t *words, size_t words_len, uint8_t *text, size_t text_len,
                        uint64_t *place, uint64_t *length, uint64_t *rows, uint64_t *text_used);
+AFSUNGAR_NODISCARD
 uint64_t afsungar_read_within(uint64_t limit, const uint8_t *bytes, size_t len, uint64_t *words, size_t words_len,
                               uint8_t *text, size_t text_len,
                               uint64_t *place, uint64_t *length, uint64_t *rows, uint64_t *text_used);
@@ -189,11 +237,13 @@ uint64_t afsungar_read_within(uint64_t limit, const uint8_t *bytes, size_t len, 
  *   0 with length 0: done. That is where *at is len or more; *at stays.
  *   0 with a length: a value of so many bytes at *at as it was, and *at has moved behind it.
  *   Otherwise a refusal, those of afsungar_measure: *at stays. */
+AFSUNGAR_NODISCARD
 uint64_t afsungar_step(const uint8_t *bytes, size_t len, uint64_t *at, uint64_t *place, uint64_t *length);
+AFSUNGAR_NODISCARD
 uint64_t afsungar_step_within(uint64_t limit, const uint8_t *bytes, size_t len, uint64_t *at, uint64_t *place, uint64_t *length);
 
-/* What a 6 needs beside its place. These three are plain C, over the functions above. They take any words and any text, and read
- * nothing beyond them. */
+/* The way through a table, and what a 6 needs beside its place. These are plain C. They take any words, any text and any row, and
+ * read nothing beyond them. */
 
 /* How many bytes of text a row has. */
 static inline uint64_t afsungar_text_length(uint64_t kind, uint64_t number) {
@@ -208,6 +258,46 @@ static inline uint64_t afsungar_text_length(uint64_t kind, uint64_t number) {
     default:
         return 0;
     }
+}
+
+/* Where the text of the next row begins, given a row and where its own begins; UINT64_MAX where that is beyond all numbers. */
+static inline uint64_t afsungar_text_after(const uint64_t *words, size_t words_len, uint64_t row, uint64_t start) {
+    uint64_t length = row < words_len / 2 ? afsungar_text_length(words[2 * row], words[2 * row + 1]) : 0;
+    return length > UINT64_MAX - start ? UINT64_MAX : start + length;
+}
+
+/* How many children a row says it has. */
+static inline uint64_t afsungar_child_count(uint64_t kind, uint64_t number) {
+    switch (kind) {
+    case AFSUNGAR_DESCRIBED:
+    case AFSUNGAR_LIST:
+    case AFSUNGAR_MAP:
+        return number;
+    case AFSUNGAR_ARRAY:
+        return AFSUNGAR_ELEMENT_COUNT(number);
+    default:
+        return 0;
+    }
+}
+
+/* The row behind a value and all that is below it; the number of rows where that is not all there. */
+static inline uint64_t afsungar_row_after(const uint64_t *words, size_t words_len, uint64_t row) {
+    uint64_t rows = words_len / 2, due = 1; /* due: values that are still to come, never more than the rows that are left */
+    if (row >= rows) return rows;
+    for (; due; row++) {
+        uint64_t children = afsungar_child_count(words[2 * row], words[2 * row + 1]);
+        if (children > rows - row - due) return rows;
+        due = due - 1 + children;
+    }
+    return row;
+}
+
+/* The row of a row's n-th child, from 0; the number of rows where there is none. */
+static inline uint64_t afsungar_child(const uint64_t *words, size_t words_len, uint64_t row, uint64_t n) {
+    uint64_t rows = words_len / 2;
+    if (row >= rows || n >= afsungar_child_count(words[2 * row], words[2 * row + 1])) return rows;
+    for (row++; n && row < rows; n--) row = afsungar_row_after(words, words_len, row);
+    return row;
 }
 
 /* The row that a byte of the text belongs to; the number of rows where it belongs to none. *start: where that row's text begins,

@@ -1,12 +1,13 @@
 /* Writes an order to standard output; or lists the rows of the first value of a file, within its first 4,096 bytes, as the listing
- * does (docs/FORMAT.md, 8).
+ * does (docs/FORMAT.md, 8), with --texts each string and symbol behind its row.
  *
- *     rt staticlib export                       # makes target/staticlib/libexport.a
- *     cc -Ibindings/c bindings/c/order.c target/staticlib/libexport.a -o target/order
- *     target/order >target/order.amqp           # the same bytes as examples/order.amqp
- *     target/order examples/order.amqp */
+ *     make -C bindings/c install                # see bindings/c/Makefile for where
+ *     cc bindings/c/order.c $(pkg-config --cflags --libs afsungar) -o order
+ *     ./order >order.amqp                       # the same bytes as examples/order.amqp
+ *     ./order --texts examples/order.amqp */
 #include <inttypes.h>
 #include <stdio.h>
+#include <string.h>
 
 #include "afsungar.h"
 
@@ -39,6 +40,7 @@ static uint8_t bytes[MOST], text[MOST];
 static uint64_t table[2 * MOST];
 
 static int refused(uint64_t refusal, uint64_t place) {
+    fprintf(stderr, "%s\n", afsungar_refusal_text(refusal));
     printf("refused %" PRIu64 " %" PRIu64 "\n", refusal, place);
     return 1;
 }
@@ -55,23 +57,40 @@ static int write_order(void) {
     return fwrite(bytes, 1, length, stdout) != length;
 }
 
-static int list(FILE *file) {
-    uint64_t place, length, rows, used;
+/* A text in quotes. Control characters, quotes and backslashes stand in hex. */
+static void show(const uint8_t *letter, uint64_t length) {
+    printf(" \"");
+    for (const uint8_t *end = letter + length; letter < end; letter++)
+        if (*letter < ' ' || *letter == 0x7f || *letter == '"' || *letter == '\\')
+            printf("\\x%02x", *letter);
+        else
+            putchar(*letter);
+    printf("\"");
+}
+
+static int list(FILE *file, int texts) {
+    uint64_t place, length, rows, used, at = 0;
     size_t read = fread(bytes, 1, MOST, file);
     fclose(file);
     /* the listing names the highest level limit; afsungar_read would refuse a file of more than 16 levels */
     uint64_t refusal =
         afsungar_read_within(AFSUNGAR_LEVELS_MOST, bytes, read, table, 2 * MOST, text, MOST, &place, &length, &rows, &used);
     if (refusal) return refused(refusal, place);
-    for (uint64_t row = 0; row < rows; row++)
-        printf("%" PRIu64 " %02" PRIx64 " %" PRIu64 "\n", row, table[2 * row], table[2 * row + 1]);
+    for (uint64_t row = 0; row < rows; row++) {
+        uint64_t kind = table[2 * row], number = table[2 * row + 1];
+        printf("%" PRIu64 " %02" PRIx64 " %" PRIu64, row, kind, number);
+        if (texts && (kind == AFSUNGAR_STRING || kind == AFSUNGAR_SYMBOL)) show(text + at, number);
+        printf("\n");
+        at = afsungar_text_after(table, 2 * MOST, row, at);
+    }
     printf("end %" PRIu64 "\n", length);
     return 0;
 }
 
 int main(int count, char **words) {
     if (count == 1) return write_order();
-    FILE *file = count == 2 ? fopen(words[1], "rb") : NULL;
-    if (!file) return fprintf(stderr, "usage: order [FILE]\n"), 2;
-    return list(file);
+    int texts = count == 3 && !strcmp(words[1], "--texts");
+    FILE *file = count == 2 + texts ? fopen(words[1 + texts], "rb") : NULL;
+    if (!file) return fprintf(stderr, "usage: order [[--texts] FILE], of a file that can be read\n"), 2;
+    return list(file, texts);
 }

@@ -1,6 +1,6 @@
 /* Tries what afsungar.h has for the place of a 6, over the library. It says each line that is not as it is due, and ends with 1.
  *
- *     cc -Ibindings/c bindings/c/places.c target/staticlib/libexport.a -o target/places && target/places */
+ *     make -C bindings/c check */
 #include <stdio.h>
 #include <string.h>
 

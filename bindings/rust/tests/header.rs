@@ -1,6 +1,7 @@
 //! The C header and the programs beside it, in bindings/c: each compiled without a warning, linked with this crate's library and run.
 //!
 //! Outside the repository there is no header.
+use afsungar::{Reason, Refusal};
 use std::fs;
 use std::io::ErrorKind;
 use std::path::{Path, PathBuf};
@@ -39,14 +40,50 @@ fn succeeded(output: &Output) {
     assert!(output.status.success(), "{}: {}", output.status, String::from_utf8_lossy(&said));
 }
 
-/// places.c tries the functions that are in the header itself.
-#[test]
-fn places() {
-    let c = program("cc", &["-std=c99", "-x", "c"], "places");
-    let cpp = program("c++", &["-std=c++11", "-x", "c++"], "places");
+/// Runs a program that says what is not as it is due.
+fn in_both_languages(name: &str) {
+    let c = program("cc", &["-std=c99", "-x", "c"], name);
+    let cpp = program("c++", &["-std=c++11", "-x", "c++"], name);
     for program in c.into_iter().chain(cpp) {
         succeeded(&Command::new(program).output().unwrap());
     }
+}
+
+/// places.c tries what the header has for the place of a 6.
+#[test]
+fn places() {
+    in_both_languages("places");
+}
+
+/// helpers.c tries all else that the header has beside the ten functions, and null pointers.
+#[test]
+fn helpers() {
+    in_both_languages("helpers");
+}
+
+/// What stands in quotes on the header's lines that begin so.
+fn quoted(beginning: &str) -> Option<Vec<String>> {
+    let header = fs::read_to_string(repository().join("bindings/c/afsungar.h")).ok()?;
+    let lines = header.lines().filter(|line| line.trim_start().starts_with(beginning));
+    Some(lines.filter_map(|line| Some(line.split('"').nth(1)?.to_string())).collect())
+}
+
+#[test]
+fn the_version() {
+    let Some(versions) = quoted("#define AFSUNGAR_VERSION ") else { return };
+    assert_eq!(versions, [env!("CARGO_PKG_VERSION")]);
+}
+
+/// The header has the words of this crate. For a 6 it has those of both cases.
+#[test]
+fn the_words_of_the_refusals() {
+    let Some(words) = quoted("case AFSUNGAR_") else { return };
+    let said = |refusal: Refusal| refusal.to_string().split(" (").next().unwrap().to_string();
+    let due = Reason::ALL.map(|reason| match reason {
+        Reason::TextAmiss => format!("{}, or {}", said(Refusal::writing(reason, 0)), said(Refusal::bad_text(0))),
+        _ => said(Refusal::writing(reason, 0)),
+    });
+    assert_eq!(words, due);
 }
 
 #[test]
@@ -59,4 +96,12 @@ fn the_order() {
     let listed = Command::new(&order).arg(examples.join("order.amqp")).output().unwrap();
     succeeded(&listed);
     assert_eq!(listed.stdout, fs::read(examples.join("order.txt")).unwrap());
+
+    // with the texts it is the same listing, and they stand behind their rows
+    let shown = Command::new(&order).arg("--texts").arg(examples.join("order.amqp")).output().unwrap();
+    succeeded(&shown);
+    let shown = String::from_utf8(shown.stdout).unwrap();
+    let bare: String = shown.lines().map(|line| line.split(" \"").next().unwrap().to_string() + "\n").collect();
+    assert_eq!(bare.as_bytes(), listed.stdout);
+    assert!(shown.contains("5 b3 9 \"ear-shell\"\n6 b1 5 \"Ø1.2\"\n"), "{shown}");
 }
