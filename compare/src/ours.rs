@@ -142,8 +142,7 @@ pub fn read(limit: Limit, bytes: &[u8], words: &mut [u64], text: &mut [u8]) -> T
 /// A step of the walker from `at`, and where it then is.
 pub fn step(limit: Limit, bytes: &[u8], from: u64) -> (Told, u64) {
     let (mut at, mut place, mut length) = (from, STALE, STALE);
-    let number =
-        call!(limit, afsungar_step, afsungar_step_within, bytes.as_ptr(), bytes.len(), &mut at, &mut place, &mut length);
+    let number = call!(limit, afsungar_step, afsungar_step_within, bytes.as_ptr(), bytes.len(), &mut at, &mut place, &mut length);
     (Told { number, place, length, ..Told::default() }, at)
 }
 

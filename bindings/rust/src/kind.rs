@@ -99,13 +99,16 @@ impl Kind {
         self as u64
     }
 
-    /// Its name with the article before it: an array, a uint.
+    /// One value of it in words: an array, a uint, a described value.
     pub(crate) fn with_article(self) -> impl fmt::Display {
         struct WithArticle(Kind);
         impl fmt::Display for WithArticle {
             fn fmt(&self, f: &mut fmt::Formatter<'_>) -> fmt::Result {
-                let article = if matches!(self.0, Kind::Array | Kind::Int) { "an" } else { "a" };
-                write!(f, "{article} {}", self.0)
+                match self.0 {
+                    Kind::Array | Kind::Int => write!(f, "an {}", self.0),
+                    Kind::Described => write!(f, "a {} value", self.0),
+                    kind => write!(f, "a {kind}"),
+                }
             }
         }
         WithArticle(self)

@@ -4,7 +4,7 @@ use std::time::{Duration, SystemTime, UNIX_EPOCH};
 
 /// A time: milliseconds since the start of 1970, UTC, without leap seconds.
 ///
-/// `Display` prints it as a date, with milliseconds where there are any.
+/// `Display` and `Debug` print it as a date, with milliseconds where there are any.
 ///
 /// ```
 /// use afsungar::Timestamp;
@@ -26,7 +26,7 @@ use std::time::{Duration, SystemTime, UNIX_EPOCH};
 /// assert_eq!(Timestamp::try_from(then), Ok(now));
 /// # Ok::<(), afsungar::TimeOutside>(())
 /// ```
-#[derive(Clone, Copy, Debug, Default, PartialEq, Eq, PartialOrd, Ord, Hash)]
+#[derive(Clone, Copy, Default, PartialEq, Eq, PartialOrd, Ord, Hash)]
 pub struct Timestamp(pub i64);
 
 const DAY: i64 = 24 * 60 * 60 * 1000;
@@ -57,6 +57,12 @@ impl fmt::Display for Timestamp {
             0 => f.write_str("Z"),
             _ => write!(f, ".{milliseconds:03}Z"),
         }
+    }
+}
+
+impl fmt::Debug for Timestamp {
+    fn fmt(&self, f: &mut fmt::Formatter<'_>) -> fmt::Result {
+        fmt::Display::fmt(self, f)
     }
 }
 

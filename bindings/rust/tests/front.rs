@@ -46,7 +46,8 @@ fn dates() {
         (i64::MAX, "+292278994-08-17T07:12:55.807Z"),
         (i64::MIN, "-292275055-05-16T16:47:04.192Z"),
     ] {
-        assert_eq!(Timestamp(milliseconds).to_string(), date);
+        let time = Timestamp(milliseconds);
+        assert_eq!((time.to_string(), format!("{time:?}")), (date.to_owned(), date.to_owned()));
     }
 }
 
@@ -88,6 +89,7 @@ fn articles() {
     let words = |wanted, found| Mismatch { wanted, found }.to_string();
     assert_eq!(words(Kind::Uint, Kind::Array), "a uint is wanted and an array found");
     assert_eq!(words(Kind::Int, Kind::Uuid), "an int is wanted and a uuid found");
+    assert_eq!(words(Kind::String, Kind::Described), "a string is wanted and a described value found");
 }
 
 #[test]
@@ -184,7 +186,7 @@ fn rows_and_kinds_explained() {
     assert_eq!(raw(&[], &[]), "the table is empty");
     assert_eq!(raw(&[0x40, 0, 0x40, 0], &[]), "row 1 stands behind the value; a table holds one");
     assert_eq!(raw(&[0xd0, 2, 0xd0, 3, 0x40, 0], &[]), "$[0]: a list of 3 values, and the table ends behind 1");
-    assert_eq!(raw(&[0x00, 2, 0x80, 36], &[]), "$: a described of 2 values, and the table ends behind 1");
+    assert_eq!(raw(&[0x00, 2, 0x80, 36], &[]), "$: a described value of 2 values, and the table ends behind 1");
     assert_eq!(raw(&[0xd1, 2, 0x40, 0], &[]), "$: a map of 2 values, and the table ends behind 1");
     assert_eq!(raw(&[0xd0, 2, 0x40, 0, 0xff, 0], &[]), "$[1]: 0xff is not one of the 25 kinds");
     assert_eq!(
