@@ -203,6 +203,33 @@ impl Refusal {
         self.task
     }
 
+    /// What is wrong, in words, without number and place. `Display` has these too.
+    #[must_use]
+    pub const fn words(&self) -> &'static str {
+        match (self.reason, self.task) {
+            (Reason::BytesLeft, _) => "bytes are left behind the value",
+            (Reason::RowsAmiss, _) => "a row is missing or left over",
+            (Reason::KindUnknown, _) => "the kind is not one of the 25",
+            (Reason::TooDeep, _) => "a value stands deeper than the level limit of the call",
+            (Reason::ElementUnfit, Task::Writing) => {
+                "an array tells a kind that it cannot hold, or an element has another one"
+            }
+            (Reason::ElementUnfit, Task::Reading) => "an array's element code is not allowed",
+            (Reason::NumberOutside, _) => "the number is not one that the row's kind allows",
+            (Reason::TextAmiss, _) if self.in_text => "a string is not UTF-8 or a symbol not ASCII",
+            (Reason::TextAmiss, _) => "text is missing or left over",
+            (Reason::TooLong, _) => "more than 1,048,576 bytes would be written",
+            (Reason::OutputShort, _) => "the output is too short",
+            (Reason::InputShort, _) => "a value goes on beyond its bytes",
+            (Reason::CodeUnknown, _) => "the format code is not one of the 40",
+            (Reason::PayloadBad, _) => "a boolean, char, string or symbol is not valid",
+            (Reason::SizeAmiss, _) => "a size or count does not fit its body",
+            (Reason::RowsShort, _) => "the room for rows is too small",
+            (Reason::TextShort, _) => "the room for text is too small",
+            (Reason::LimitOutside, _) => "the level limit has to be from 1 to 32",
+        }
+    }
+
     /// The row where writing ended, from 0. It is the number of rows where a row is missing or text is left at the end.
     ///
     /// It is none where a text is bad: then [`text_byte`](Refusal::text_byte) has the place.
@@ -235,29 +262,7 @@ impl Refusal {
 
 impl fmt::Display for Refusal {
     fn fmt(&self, f: &mut fmt::Formatter<'_>) -> fmt::Result {
-        let words = match (self.reason, self.task) {
-            (Reason::BytesLeft, _) => "bytes are left behind the value",
-            (Reason::RowsAmiss, _) => "a row is missing or left over",
-            (Reason::KindUnknown, _) => "the kind is not one of the 25",
-            (Reason::TooDeep, _) => "a value stands deeper than the level limit of the call",
-            (Reason::ElementUnfit, Task::Writing) => {
-                "an array tells a kind that it cannot hold, or an element has another one"
-            }
-            (Reason::ElementUnfit, Task::Reading) => "an array's element code is not allowed",
-            (Reason::NumberOutside, _) => "the number is not one that the row's kind allows",
-            (Reason::TextAmiss, _) if self.in_text => "a string is not UTF-8 or a symbol not ASCII",
-            (Reason::TextAmiss, _) => "text is missing or left over",
-            (Reason::TooLong, _) => "more than 1,048,576 bytes would be written",
-            (Reason::OutputShort, _) => "the output is too short",
-            (Reason::InputShort, _) => "a value goes on beyond its bytes",
-            (Reason::CodeUnknown, _) => "the format code is not one of the 40",
-            (Reason::PayloadBad, _) => "a boolean, char, string or symbol is not valid",
-            (Reason::SizeAmiss, _) => "a size or count does not fit its body",
-            (Reason::RowsShort, _) => "the room for rows is too small",
-            (Reason::TextShort, _) => "the room for text is too small",
-            (Reason::LimitOutside, _) => "the level limit has to be from 1 to 32",
-        };
-        f.write_str(words)?;
+        f.write_str(self.words())?;
         if self.reason != Reason::BytesLeft {
             write!(f, " ({})", self.number())?;
         }
