@@ -206,19 +206,15 @@ impl fmt::Display for Way<'_> {
 
 /// What a map has for this key, which is that of its n-th entry.
 fn write_key(f: &mut fmt::Formatter<'_>, key: Option<Row<'_>>, entry: usize) -> fmt::Result {
-    match key.and_then(|key| key.value().ok()) {
+    let value = key.and_then(|key| key.value().ok());
+    match value {
         Some(Value::String(name) | Value::Symbol(name)) if is_plain(name) => write!(f, ".{name}"),
         Some(Value::String(name) | Value::Symbol(name)) => write!(f, "[{name:?}]"),
-        Some(Value::Ubyte(n)) => write!(f, "[{n}]"),
-        Some(Value::Ushort(n)) => write!(f, "[{n}]"),
-        Some(Value::Uint(n)) => write!(f, "[{n}]"),
-        Some(Value::Ulong(n)) => write!(f, "[{n}]"),
-        Some(Value::Byte(n)) => write!(f, "[{n}]"),
-        Some(Value::Short(n)) => write!(f, "[{n}]"),
-        Some(Value::Int(n)) => write!(f, "[{n}]"),
-        Some(Value::Long(n)) => write!(f, "[{n}]"),
         Some(Value::Uuid(uuid)) => write!(f, "[{uuid}]"),
-        _ => write!(f, "<value {entry}>"),
+        _ => match value.and_then(|value| value.whole()) {
+            Some(number) => write!(f, "[{number}]"),
+            None => write!(f, "<value {entry}>"),
+        },
     }
 }
 

@@ -161,6 +161,30 @@ impl Value<'_> {
         }
     }
 
+    /// The number that it holds, if it is a whole number: of the kinds from ubyte to ulong and from byte to long.
+    ///
+    /// ```
+    /// use afsungar::Value;
+    ///
+    /// assert_eq!(Value::Ubyte(7).whole(), Some(7));
+    /// assert_eq!(Value::Long(-7).whole(), Some(-7));
+    /// assert_eq!(Value::Double(7.0).whole(), None);
+    /// ```
+    #[must_use]
+    pub const fn whole(&self) -> Option<i128> {
+        Some(match *self {
+            Value::Ubyte(n) => n as i128,
+            Value::Ushort(n) => n as i128,
+            Value::Uint(n) => n as i128,
+            Value::Ulong(n) => n as i128,
+            Value::Byte(n) => n as i128,
+            Value::Short(n) => n as i128,
+            Value::Int(n) => n as i128,
+            Value::Long(n) => n as i128,
+            _ => return None,
+        })
+    }
+
     /// How many children follow.
     #[must_use]
     pub fn count(&self) -> usize {
