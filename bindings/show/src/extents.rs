@@ -2,6 +2,8 @@
 
 use afsungar::Kind;
 
+use self::Layout::{Array, Compound, Described, Plain, Sized};
+
 /// A value or a part of one.
 #[derive(Clone, Copy, Debug, PartialEq, Eq)]
 pub struct Part {
@@ -26,51 +28,65 @@ pub enum Layout {
     Described,
 }
 
+/// The 40 format codes.
+const CODES: [(u8, Kind, Layout); 40] = [
+    (0x00, Kind::Described, Described),
+    (0x40, Kind::Null, Plain(0)),
+    (0x41, Kind::Boolean, Plain(0)),
+    (0x42, Kind::Boolean, Plain(0)),
+    (0x43, Kind::Uint, Plain(0)),
+    (0x44, Kind::Ulong, Plain(0)),
+    (0x45, Kind::List, Plain(0)),
+    (0x50, Kind::Ubyte, Plain(1)),
+    (0x51, Kind::Byte, Plain(1)),
+    (0x52, Kind::Uint, Plain(1)),
+    (0x53, Kind::Ulong, Plain(1)),
+    (0x54, Kind::Int, Plain(1)),
+    (0x55, Kind::Long, Plain(1)),
+    (0x56, Kind::Boolean, Plain(1)),
+    (0x60, Kind::Ushort, Plain(2)),
+    (0x61, Kind::Short, Plain(2)),
+    (0x70, Kind::Uint, Plain(4)),
+    (0x71, Kind::Int, Plain(4)),
+    (0x72, Kind::Float, Plain(4)),
+    (0x73, Kind::Char, Plain(4)),
+    (0x74, Kind::Decimal32, Plain(4)),
+    (0x80, Kind::Ulong, Plain(8)),
+    (0x81, Kind::Long, Plain(8)),
+    (0x82, Kind::Double, Plain(8)),
+    (0x83, Kind::Timestamp, Plain(8)),
+    (0x84, Kind::Decimal64, Plain(8)),
+    (0x94, Kind::Decimal128, Plain(16)),
+    (0x98, Kind::Uuid, Plain(16)),
+    (0xa0, Kind::Binary, Sized(1)),
+    (0xa1, Kind::String, Sized(1)),
+    (0xa3, Kind::Symbol, Sized(1)),
+    (0xb0, Kind::Binary, Sized(4)),
+    (0xb1, Kind::String, Sized(4)),
+    (0xb3, Kind::Symbol, Sized(4)),
+    (0xc0, Kind::List, Compound(1)),
+    (0xc1, Kind::Map, Compound(1)),
+    (0xd0, Kind::List, Compound(4)),
+    (0xd1, Kind::Map, Compound(4)),
+    (0xe0, Kind::Array, Array(1)),
+    (0xf0, Kind::Array, Array(4)),
+];
+
+/// The same by code.
+const FORMS: [Option<(Kind, Layout)>; 256] = {
+    let mut forms = [None; 256];
+    let mut at = 0;
+    while at < CODES.len() {
+        let (code, kind, layout) = CODES[at];
+        forms[code as usize] = Some((kind, layout));
+        at += 1;
+    }
+    forms
+};
+
 /// The kind and the layout of a format code, if it is one of the 40.
 pub fn form(code: u8) -> Option<(Kind, Layout)> {
-    use Layout::{Array, Compound, Described, Plain, Sized};
-    Some(match code {
-        0x00 => (Kind::Described, Described),
-        0x40 => (Kind::Null, Plain(0)),
-        0x41 | 0x42 => (Kind::Boolean, Plain(0)),
-        0x43 => (Kind::Uint, Plain(0)),
-        0x44 => (Kind::Ulong, Plain(0)),
-        0x45 => (Kind::List, Plain(0)),
-        0x50 => (Kind::Ubyte, Plain(1)),
-        0x51 => (Kind::Byte, Plain(1)),
-        0x52 => (Kind::Uint, Plain(1)),
-        0x53 => (Kind::Ulong, Plain(1)),
-        0x54 => (Kind::Int, Plain(1)),
-        0x55 => (Kind::Long, Plain(1)),
-        0x56 => (Kind::Boolean, Plain(1)),
-        0x60 => (Kind::Ushort, Plain(2)),
-        0x61 => (Kind::Short, Plain(2)),
-        0x70 => (Kind::Uint, Plain(4)),
-        0x71 => (Kind::Int, Plain(4)),
-        0x72 => (Kind::Float, Plain(4)),
-        0x73 => (Kind::Char, Plain(4)),
-        0x74 => (Kind::Decimal32, Plain(4)),
-        0x80 => (Kind::Ulong, Plain(8)),
-        0x81 => (Kind::Long, Plain(8)),
-        0x82 => (Kind::Double, Plain(8)),
-        0x83 => (Kind::Timestamp, Plain(8)),
-        0x84 => (Kind::Decimal64, Plain(8)),
-        0x94 => (Kind::Decimal128, Plain(16)),
-        0x98 => (Kind::Uuid, Plain(16)),
-        0xa0 => (Kind::Binary, Sized(1)),
-        0xa1 => (Kind::String, Sized(1)),
-        0xa3 => (Kind::Symbol, Sized(1)),
-        0xb0 => (Kind::Binary, Sized(4)),
-        0xb1 => (Kind::String, Sized(4)),
-        0xb3 => (Kind::Symbol, Sized(4)),
-        0xc0 => (Kind::List, Compound(1)),
-        0xc1 => (Kind::Map, Compound(1)),
-        0xd0 => (Kind::List, Compound(4)),
-        0xd1 => (Kind::Map, Compound(4)),
-        0xe0 => (Kind::Array, Array(1)),
-        0xf0 => (Kind::Array, Array(4)),
-        _ => return None,
-    })
+    FORMS[usize::from(code)]
 }
 
 /// The big-endian number of this width at the front of the bytes.
@@ -97,19 +113,17 @@ struct Head {
 fn head(bytes: &[u8], at: usize, layout: Layout) -> Head {
     let leaf = |end| Head { end, children: 0, element: None };
     match layout {
-        Layout::Plain(width) => leaf(at + width),
-        Layout::Sized(width) => leaf(at + width + number(&bytes[at..], width)),
-        Layout::Compound(width) => {
-            Head { end: at + 2 * width, children: number(&bytes[at + width..], width), element: None }
-        }
-        Layout::Array(width) => {
+        Plain(width) => leaf(at + width),
+        Sized(width) => leaf(at + width + number(&bytes[at..], width)),
+        Compound(width) => Head { end: at + 2 * width, children: number(&bytes[at + width..], width), element: None },
+        Array(width) => {
             let body = at + 2 * width;
             // An empty array may have no element code.
             let element = (number(&bytes[at..], width) > width).then(|| bytes[body]);
             let end = body + usize::from(element.is_some());
             Head { end, children: number(&bytes[at + width..], width), element }
         }
-        Layout::Described => Head { end: at, children: 2, element: None },
+        Described => Head { end: at, children: 2, element: None },
     }
 }
 

@@ -21,6 +21,9 @@ pub fn is_invisible(c: char) -> bool {
 /// The text in quotes, with everything escaped that cannot be seen.
 pub fn quoted(out: &mut impl Write, text: &str) -> fmt::Result {
     out.write_char('"')?;
+    if text.bytes().all(|byte| matches!(byte, b' '..=b'~') && byte != b'"' && byte != b'\\') {
+        return out.write_str(text).and_then(|()| out.write_char('"'));
+    }
     let mut rest = text;
     // Rust escapes the single quote too, which needs none here.
     while let Some(at) = rest.find(|c| c == '\'' || is_invisible(c)) {

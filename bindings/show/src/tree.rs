@@ -11,10 +11,11 @@ use crate::refused::Head;
 use crate::text;
 use crate::walk::{Place, Print, Spot};
 
-const DIM: &str = "2";
-const RED: &str = "31";
-const GREEN: &str = "32";
-const CYAN: &str = "36";
+const PLAIN: &str = "\x1b[0m";
+const DIM: &str = "\x1b[2m";
+const RED: &str = "\x1b[31m";
+const GREEN: &str = "\x1b[32m";
+const CYAN: &str = "\x1b[36m";
 
 pub struct Tree<W> {
     out: W,
@@ -42,74 +43,78 @@ impl<W: Write> Tree<W> {
             Kind::List => Value::List(head.count),
             _ => Value::Described,
         };
-        let mut line = self.begin(spot.place);
+        let mut line = self.begin(spot, spot.base, head.length)?;
         self.value(&mut line, &value)
             .and_then(|()| line.write_str(", "))
             .and_then(|()| self.painted(&mut line, RED, |line| line.write_str("refused")))
             .map_err(io::Error::other)?;
-        self.print(spot, spot.base, head.length, line)
+        self.end(line)
     }
 
     /// A value that is refused and cannot be opened.
     pub fn refused(&mut self, spot: Spot) -> io::Result<()> {
-        let mut line = self.begin(spot.place);
+        let mut line = self.begin(spot, spot.base, None)?;
         self.painted(&mut line, RED, |line| line.write_str("refused")).map_err(io::Error::other)?;
-        self.print(spot, spot.base, None, line)
+        self.end(line)
     }
 
     pub fn finish(mut self) -> io::Result<()> {
         self.out.flush()
     }
 
-    /// The line so far: what the part is to its parent.
-    fn begin(&mut self, place: Place) -> String {
-        let mut line = std::mem::take(&mut self.line);
-        line.clear();
-        match place {
-            Place::Descriptor => line.push_str("descriptor: "),
-            Place::Key => line.push_str("key: "),
-            Place::Entry if self.key_bytes.is_some() => {
-                line.push_str(&self.key);
-                line.push_str(": ");
-            }
-            Place::Entry => line.push_str("value: "),
-            _ => {}
-        }
-        line
-    }
-
-    fn print(&mut self, spot: Spot, offset: usize, length: Option<usize>, line: String) -> io::Result<()> {
-        let width = self.width;
+    /// A line up to its value: offset and length, and what the part is to its parent.
+    fn begin(&mut self, spot: Spot, offset: usize, length: Option<usize>) -> io::Result<String> {
         if !self.begun {
             self.begun = true;
-            let head = format!("{:>width$} {:>width$}", "offset", "length");
-            self.columns(&head)?;
-            self.out.write_all(b"\n")?;
+            let (width, dim, plain) = (self.width, self.ink(DIM), self.ink(PLAIN));
+            writeln!(self.out, "{dim}{:>width$} {:>width$}{plain}", "offset", "length")?;
         }
         // An entry begins where its key does.
         let key = if spot.place == Place::Entry { self.key_bytes.take() } else { None };
-        let (offset, before) = key.map_or((offset, 0), |key| (key.start, key.len()));
-        let length = length.map_or(String::new(), |length| (length + before).to_string());
-        self.columns(&format!("{offset:>width$} {length:>width$}"))?;
-        writeln!(self.out, "  {:indent$}{line}", "", indent = 2 * spot.depth)?;
+        let (offset, before) = key.as_ref().map_or((offset, 0), |key| (key.start, key.len()));
+        let mut line = std::mem::take(&mut self.line);
+        line.clear();
+        line.push_str(self.ink(DIM));
+        column(&mut line, Some(offset), self.width);
+        line.push(' ');
+        column(&mut line, length.map(|length| length + before), self.width);
+        line.push_str(self.ink(PLAIN));
+        (0..=spot.depth).for_each(|_| line.push_str("  "));
+        match spot.place {
+            Place::Descriptor => line.push_str("descriptor: "),
+            Place::Key => line.push_str("key: "),
+            Place::Entry if key.is_some() => line.extend([&self.key, ": "]),
+            Place::Entry => line.push_str("value: "),
+            _ => {}
+        }
+        Ok(line)
+    }
+
+    fn end(&mut self, mut line: String) -> io::Result<()> {
+        line.push('\n');
+        self.out.write_all(line.as_bytes())?;
         self.line = line;
         Ok(())
     }
 
-    fn columns(&mut self, text: &str) -> io::Result<()> {
-        match self.colour {
-            true => write!(self.out, "\x1b[{DIM}m{text}\x1b[0m"),
-            false => self.out.write_all(text.as_bytes()),
+    /// What turns a terminal to this colour, if there is to be any.
+    fn ink(&self, colour: &'static str) -> &'static str {
+        if self.colour {
+            colour
+        } else {
+            ""
         }
     }
 
-    fn painted(&self, line: &mut String, colour: &str, put: impl FnOnce(&mut String) -> fmt::Result) -> fmt::Result {
-        if !self.colour {
-            return put(line);
-        }
-        write!(line, "\x1b[{colour}m")?;
+    fn painted(
+        &self,
+        line: &mut String,
+        colour: &'static str,
+        put: impl FnOnce(&mut String) -> fmt::Result,
+    ) -> fmt::Result {
+        line.push_str(self.ink(colour));
         put(line)?;
-        line.push_str("\x1b[0m");
+        line.push_str(self.ink(PLAIN));
         Ok(())
     }
 
@@ -119,8 +124,9 @@ impl<W: Write> Tree<W> {
         match *value {
             Value::Described | Value::Null => Ok(()),
             Value::List(count) => write!(line, " of {count}"),
-            Value::Map(count) => write!(line, " of {}", counted(count / 2, "entry", "entries")),
-            Value::Array { count, element } => write!(line, " of {}", elements(count, element)),
+            Value::Map(2) => line.write_str(" of 1 entry"),
+            Value::Map(count) => write!(line, " of {} entries", count / 2),
+            Value::Array { count, element } => elements(line, count, element),
             _ => {
                 line.push(' ');
                 self.painted(line, GREEN, |line| scalar(line, value, self.full))
@@ -129,15 +135,25 @@ impl<W: Write> Tree<W> {
     }
 }
 
-fn counted(count: usize, one: &str, many: &str) -> String {
-    format!("{count} {}", if count == 1 { one } else { many })
+/// A number at the right of a column, or nothing.
+fn column(line: &mut String, number: Option<usize>, width: usize) {
+    let mut digits = [' '; 20];
+    let mut first = digits.len();
+    let mut left = number;
+    while let Some(number) = left {
+        first -= 1;
+        digits[first] = char::from(b'0' + (number % 10) as u8);
+        left = Some(number / 10).filter(|left| *left > 0);
+    }
+    line.extend(&digits[first.min(digits.len() - width)..]);
 }
 
-fn elements(count: usize, element: Option<Kind>) -> String {
-    match element {
-        Some(Kind::Binary) => counted(count, "binary", "binaries"),
-        Some(kind) => counted(count, kind.name(), &format!("{kind}s")),
-        None => format!("{count}, of no told kind"),
+fn elements(line: &mut String, count: usize, element: Option<Kind>) -> fmt::Result {
+    match (element, count) {
+        (None, _) => write!(line, " of {count}, of no told kind"),
+        (Some(kind), 1) => write!(line, " of 1 {kind}"),
+        (Some(Kind::Binary), _) => write!(line, " of {count} binaries"),
+        (Some(kind), _) => write!(line, " of {count} {kind}s"),
     }
 }
 
@@ -180,9 +196,9 @@ impl<W: Write> Print for Tree<W> {
             self.key_bytes = Some(offset..offset + part.length);
             return Ok(());
         }
-        let mut line = self.begin(spot.place);
+        let mut line = self.begin(spot, offset, Some(part.length))?;
         self.value(&mut line, &value).map_err(io::Error::other)?;
-        self.print(spot, offset, Some(part.length), line)
+        self.end(line)
     }
 
     fn leave(&mut self, _: Spot, _: Kind) -> io::Result<()> {

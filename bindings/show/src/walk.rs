@@ -81,7 +81,11 @@ pub fn walk(print: &mut impl Print, spot: Spot, table: &Table, parts: &[Part]) -
     for (row, part) in table.rows().zip(parts) {
         let spot = open.last_mut().map_or(spot, Open::next);
         print.enter(spot, &row, part)?;
-        open.push(Open { spot, kind: part.kind, count: row.count(), passed: 0 });
+        if row.count() > 0 {
+            open.push(Open { spot, kind: part.kind, count: row.count(), passed: 0 });
+            continue;
+        }
+        print.leave(spot, part.kind)?;
         while open.last().is_some_and(|last| last.passed == last.count) {
             if let Some(ended) = open.pop() {
                 print.leave(ended.spot, ended.kind)?;
