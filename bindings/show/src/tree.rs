@@ -137,15 +137,15 @@ impl<W: Write> Tree<W> {
 
 /// A number at the right of a column, or nothing.
 fn column(line: &mut String, number: Option<usize>, width: usize) {
-    let mut digits = [' '; 20];
+    let mut digits = [b' '; 20];
     let mut first = digits.len();
     let mut left = number;
     while let Some(number) = left {
         first -= 1;
-        digits[first] = char::from(b'0' + (number % 10) as u8);
+        digits[first] = b'0' + (number % 10) as u8;
         left = Some(number / 10).filter(|left| *left > 0);
     }
-    line.extend(&digits[first.min(digits.len() - width)..]);
+    line.push_str(std::str::from_utf8(&digits[first.min(digits.len() - width)..]).unwrap_or_default());
 }
 
 fn elements(line: &mut String, count: usize, element: Option<Kind>) -> fmt::Result {
