@@ -23,7 +23,7 @@ impl<W: Write> Json<W> {
     /// The last line, where a value is refused.
     pub fn refused(&mut self, refused: &Refused) -> io::Result<()> {
         self.object.clear();
-        string(&mut self.object, &refused.words).map_err(io::Error::other)?;
+        string(&mut self.object, refused.words).map_err(io::Error::other)?;
         let Refused { number, offset, index, .. } = refused;
         let words = &self.object;
         writeln!(

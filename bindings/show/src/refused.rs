@@ -16,7 +16,7 @@ const ACROSS: usize = 16;
 /// The refusal of a value of the file.
 pub struct Refused {
     pub number: u8,
-    pub words: String,
+    pub words: &'static str,
     /// The byte of the file that the library names.
     pub offset: usize,
     /// Where the value begins.
@@ -28,11 +28,8 @@ pub struct Refused {
 impl Refused {
     /// The refusal of the value that begins at `start`, from where on the library has counted.
     pub fn new(refusal: &Refusal, start: usize, index: usize) -> Self {
-        let number = refusal.number();
-        let said = refusal.to_string();
-        let place = format!(" ({number}) at byte {}", refusal.place());
-        let words = said.strip_suffix(&place).unwrap_or(&said).to_string();
-        Refused { number, words, offset: start + refusal.place() as usize, start, index }
+        let offset = start + refusal.place() as usize;
+        Refused { number: refusal.number(), words: refusal.words(), offset, start, index }
     }
 
     /// What is wrong, where, and the bytes around it. `inner` is where the innermost value begins that is refused.

@@ -4,7 +4,9 @@ mod common;
 
 use std::fs::{self, File};
 use std::io::Read;
-use std::process::Stdio;
+use std::os::unix::fs::symlink;
+use std::path::Path;
+use std::process::{Command, Stdio};
 
 use common::{command, hex, in_repository, run};
 
@@ -127,6 +129,37 @@ fn help_and_version() {
     assert_eq!(run(&["--version"], b"").out, format!("show {}\n", env!("CARGO_PKG_VERSION")));
 }
 
+/// The script of the repository, where of all commands only these are there.
+fn script(name: &str, tools: &[&str]) -> Command {
+    let folder = Path::new(env!("CARGO_TARGET_TMPDIR")).join(name);
+    fs::create_dir_all(&folder).unwrap();
+    for tool in tools {
+        let found = Command::new("sh").args(["-c", &format!("command -v {tool}")]).output().unwrap().stdout;
+        let found = String::from_utf8(found).unwrap();
+        let _ = symlink(found.trim(), folder.join(tool));
+    }
+    let mut command = Command::new(in_repository("show"));
+    command.env("PATH", folder).stdin(Stdio::null());
+    command
+}
+
+#[test]
+fn the_script_has_the_help_before_anything_is_built() {
+    let tools = ["bash", "dirname", "readlink", "sed"];
+    let due = run(&["--help"], b"").out;
+    for word in ["-h", "--help"] {
+        let ran = script("help", &tools).args(["--json", word]).output().unwrap();
+        assert_eq!((ran.status.code(), ran.stderr.as_slice()), (Some(0), &b""[..]));
+        assert_eq!(String::from_utf8(ran.stdout).unwrap(), due);
+    }
+    for words in [&["--json"][..], &["--", "--help"]] {
+        let ran = script("cargo", &tools).args(words).output().unwrap();
+        assert_eq!((ran.status.code(), ran.stdout.as_slice()), (Some(2), &b""[..]));
+        let said = String::from_utf8(ran.stderr).unwrap();
+        assert_eq!(said, "show: it is built by cargo, and there is no command cargo\n");
+    }
+}
+
 #[test]
 fn a_wrong_call_is_told_in_a_sentence() {
     let order = in_repository("examples/order.amqp");
@@ -189,7 +222,7 @@ fn an_output_that_is_full_is_told() {
 
 #[test]
 fn an_output_that_is_closed_is_no_error() {
-    let path = std::env::temp_dir().join(format!("show-closed-{}", std::process::id()));
+    let path = Path::new(env!("CARGO_TARGET_TMPDIR")).join("nulls");
     fs::write(&path, vec![0x40; 1_000_000]).unwrap();
     for words in [&[][..], &["--json"]] {
         let mut child = command().args(words).arg(&path).stdout(Stdio::piped()).stderr(Stdio::piped()).spawn().unwrap();
@@ -200,7 +233,6 @@ fn an_output_that_is_closed_is_no_error() {
         let ended = child.wait_with_output().unwrap();
         assert_eq!((ended.status.code(), ended.stderr.as_slice()), (Some(0), &b""[..]), "{words:?}");
     }
-    fs::remove_file(path).unwrap();
 }
 
 #[test]
