@@ -171,6 +171,7 @@ fn a_wrong_call_is_told_in_a_sentence() {
         (vec!["--colour=red"], "colour is auto, always or never, and not red"),
         (vec![&order, &order], "one file at most, and here are 2"),
         (vec!["--", "--rows"], "there is no file --rows"),
+        (vec!["--", "--help"], "there is no file --help"),
         (vec!["no/such/file"], "there is no file no/such/file"),
         (vec![&folder], &format!("{folder} is a folder")),
     ] {

@@ -95,6 +95,8 @@ fn the_levels_end_at_32() {
     let deeper = [&[0xc0, deep.len() as u8 + 1, 1], &deep[..]].concat();
     let ran = run(&[], &deeper);
     assert!(ran.err.starts_with(&said(3, DEEP, 96, 0, "which is the first")), "{}", ran.err);
+    let last = format!("    96         {}refused", " ".repeat(64));
+    assert_eq!((ran.out.lines().count(), ran.out.lines().last()), (34, Some(last.as_str())));
 }
 
 #[test]
@@ -146,6 +148,11 @@ fn a_list_with_bytes_left_over_has_all_its_children() {
     let ran = run(&[], &hex("c0 04 02 41 42 40"));
     assert_eq!(ran.out, "offset length\n     0      6  list of 2, refused\n     3      1    boolean true\n     4      1    boolean false\n");
     assert!(ran.err.starts_with(&said(12, SIZE, 0, 0, "which is the first")), "{}", ran.err);
+}
+
+#[test]
+fn a_map_of_an_odd_count_is_not_opened() {
+    assert_eq!(run(&[], &hex("c1 04 03 41 42 40")).out, "offset length\n     0         refused\n");
 }
 
 #[test]
