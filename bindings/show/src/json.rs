@@ -7,7 +7,7 @@ use afsungar::{Kind, Row, Value};
 
 use crate::extents::Part;
 use crate::refused::Refused;
-use crate::text::{hex, is_invisible};
+use crate::text::{hex, is_invisible, number};
 use crate::walk::{Place, Print, Spot};
 
 pub struct Json<W> {
@@ -128,10 +128,13 @@ impl<W: Write> Print for Json<W> {
         let value = row.value()?;
         let object = &mut self.object;
         object.clear();
-        let offset = spot.base + part.offset;
-        write!(object, "{}{{\"offset\":{offset},\"length\":{},\"kind\":\"{}\"", before(spot), part.length, part.kind)
-            .and_then(|()| content(object, &value))
-            .map_err(io::Error::other)?;
+        object.push_str(before(spot));
+        object.push_str("{\"offset\":");
+        number(object, spot.base + part.offset, 1);
+        object.push_str(",\"length\":");
+        number(object, part.length, 1);
+        object.extend([",\"kind\":\"", part.kind.name(), "\""]);
+        content(object, &value).map_err(io::Error::other)?;
         self.out.write_all(object.as_bytes())
     }
 

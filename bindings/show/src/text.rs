@@ -71,6 +71,22 @@ pub fn hex(out: &mut impl Write, bytes: &[u8]) -> fmt::Result {
     bytes.iter().try_for_each(|byte| write!(out, "{byte:02x}"))
 }
 
+/// A number at the right of so many places, or more where it takes more. (`write!` would take most of the time of a large file.)
+pub fn number(out: &mut String, number: usize, width: usize) {
+    let mut digits = [b' '; 20];
+    let mut first = digits.len();
+    let mut left = number;
+    loop {
+        first -= 1;
+        digits[first] = b'0' + (left % 10) as u8;
+        left /= 10;
+        if left == 0 {
+            break;
+        }
+    }
+    out.push_str(std::str::from_utf8(&digits[first.min(digits.len() - width)..]).unwrap_or_default());
+}
+
 /// A number with commas between each three digits.
 fn grouped(out: &mut impl Write, number: usize) -> fmt::Result {
     let digits = number.to_string();
@@ -124,6 +140,17 @@ mod tests {
         let long = format!("{}Ø{}", "a".repeat(79), "b".repeat(4919));
         assert_eq!(shown(&long, false), format!("\"{}\" … 5,000 bytes", "a".repeat(79)));
         assert_eq!(shown(&long, true), format!("\"{long}\""));
+    }
+
+    #[test]
+    fn numbers_stand_at_the_right() {
+        for (given, width, due) in
+            [(0, 1, "0"), (7, 3, "  7"), (1234, 3, "1234"), (usize::MAX, 6, "18446744073709551615")]
+        {
+            let mut out = String::new();
+            number(&mut out, given, width);
+            assert_eq!(out, due);
+        }
     }
 
     #[test]

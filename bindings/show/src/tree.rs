@@ -2,6 +2,7 @@
 
 use std::fmt::{self, Write as _};
 use std::io::{self, Write};
+use std::iter::repeat;
 use std::ops::Range;
 
 use afsungar::{Kind, Row, Value};
@@ -75,9 +76,12 @@ impl<W: Write> Tree<W> {
         let mut line = std::mem::take(&mut self.line);
         line.clear();
         line.push_str(self.ink(DIM));
-        column(&mut line, Some(offset), self.width);
+        text::number(&mut line, offset, self.width);
         line.push(' ');
-        column(&mut line, length.map(|length| length + before), self.width);
+        match length {
+            Some(length) => text::number(&mut line, length + before, self.width),
+            None => line.extend(repeat(' ').take(self.width)),
+        }
         line.push_str(self.ink(PLAIN));
         (0..=spot.depth).for_each(|_| line.push_str("  "));
         match spot.place {
@@ -133,19 +137,6 @@ impl<W: Write> Tree<W> {
             }
         }
     }
-}
-
-/// A number at the right of a column, or nothing.
-fn column(line: &mut String, number: Option<usize>, width: usize) {
-    let mut digits = [b' '; 20];
-    let mut first = digits.len();
-    let mut left = number;
-    while let Some(number) = left {
-        first -= 1;
-        digits[first] = b'0' + (number % 10) as u8;
-        left = Some(number / 10).filter(|left| *left > 0);
-    }
-    line.push_str(std::str::from_utf8(&digits[first.min(digits.len() - width)..]).unwrap_or_default());
 }
 
 fn elements(line: &mut String, count: usize, element: Option<Kind>) -> fmt::Result {
