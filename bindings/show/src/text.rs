@@ -71,7 +71,7 @@ pub fn hex(out: &mut impl Write, bytes: &[u8]) -> fmt::Result {
     bytes.iter().try_for_each(|byte| write!(out, "{byte:02x}"))
 }
 
-/// A number at the right of so many places, or more where it takes more. (`write!` would take most of the time of a large file.)
+/// A number at the right of so many places, or of as many as it takes. `write!` would be slow on a large file.
 pub fn number(out: &mut String, number: usize, width: usize) {
     let mut digits = [b' '; 20];
     let mut first = digits.len();

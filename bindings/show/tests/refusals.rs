@@ -146,7 +146,13 @@ offset length
 #[test]
 fn a_list_with_bytes_left_over_has_all_its_children() {
     let ran = run(&[], &hex("c0 04 02 41 42 40"));
-    assert_eq!(ran.out, "offset length\n     0      6  list of 2, refused\n     3      1    boolean true\n     4      1    boolean false\n");
+    let due = "\
+offset length
+     0      6  list of 2, refused
+     3      1    boolean true
+     4      1    boolean false
+";
+    assert_eq!(ran.out, due);
     assert!(ran.err.starts_with(&said(12, SIZE, 0, 0, "which is the first")), "{}", ran.err);
 }
 
