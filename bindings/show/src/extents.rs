@@ -94,78 +94,103 @@ pub fn number(bytes: &[u8], width: usize) -> usize {
     bytes[..width].iter().fold(0, |number, byte| number << 8 | usize::from(*byte))
 }
 
+/// What a value says behind its format code, which stands before `at`.
+struct Head {
+    /// Where its children begin, if it has any.
+    body: usize,
+    children: usize,
+    /// The code of an array's elements.
+    element: Option<u8>,
+    end: usize,
+}
+
+fn head(bytes: &[u8], at: usize, layout: Layout) -> Head {
+    let end = end_behind(bytes, at, layout);
+    let parent = |body, children, element| Head { body, children, element, end };
+    match layout {
+        Plain(_) | Sized(_) => parent(end, 0, None),
+        Compound(width) => parent(at + 2 * width, number(&bytes[at + width..], width), None),
+        Array(width) => {
+            let (code, count) = (at + 2 * width, number(&bytes[at + width..], width));
+            // An empty array may have no element code.
+            let element = (code < end).then(|| bytes[code]);
+            parent(code + usize::from(element.is_some()), count, element)
+        }
+        Described => parent(at, 2, None),
+    }
+}
+
+/// Where a value ends whose format code stands before `at`.
+fn end_behind(bytes: &[u8], at: usize, layout: Layout) -> usize {
+    match layout {
+        Plain(width) => at + width,
+        Sized(width) | Compound(width) | Array(width) => at + width + number(&bytes[at..], width),
+        Described => end_of(bytes, at, 2),
+    }
+}
+
+/// Where so many values end that stand end to end. What they are made of is passed over, but for described values.
+fn end_of(bytes: &[u8], mut at: usize, mut left: usize) -> usize {
+    while left > 0 {
+        left -= 1;
+        let (_, layout) = taken(bytes[at]);
+        at += 1;
+        match layout {
+            Described => left += 2,
+            _ => at = end_behind(bytes, at, layout),
+        }
+    }
+    at
+}
+
+fn taken(code: u8) -> (Kind, Layout) {
+    form(code).expect("the library takes no other code")
+}
+
 /// A value whose children are still to come.
 struct Open {
-    part: usize,
     left: usize,
     /// The code of an array's elements.
     element: Option<u8>,
 }
 
-/// What a value says behind its format code.
-struct Head {
-    /// Where its children begin, or where it ends.
-    end: usize,
-    children: usize,
-    element: Option<u8>,
-}
-
-fn head(bytes: &[u8], at: usize, layout: Layout) -> Head {
-    let leaf = |end| Head { end, children: 0, element: None };
-    match layout {
-        Plain(width) => leaf(at + width),
-        Sized(width) => leaf(at + width + number(&bytes[at..], width)),
-        Compound(width) => Head { end: at + 2 * width, children: number(&bytes[at + width..], width), element: None },
-        Array(width) => {
-            let body = at + 2 * width;
-            // An empty array may have no element code.
-            let element = (number(&bytes[at..], width) > width).then(|| bytes[body]);
-            let end = body + usize::from(element.is_some());
-            Head { end, children: number(&bytes[at + width..], width), element }
-        }
-        Described => Head { end: at, children: 2, element: None },
-    }
-}
-
-/// Puts the parts of the value at the front of the bytes into `parts`, itself first, each before what is below it.
+/// The parts of the value at the front of the bytes, itself first, each before what is below it.
 ///
 /// The library has to have taken the value: nothing is checked here.
-pub fn parts_of(bytes: &[u8], parts: &mut Vec<Part>) {
-    parts.clear();
-    let mut open: Vec<Open> = Vec::new();
-    let mut at = 0;
-    loop {
-        let offset = at;
-        // An element has its array's code, any other value its own.
-        let code = open.last().and_then(|parent| parent.element).unwrap_or_else(|| {
-            at += 1;
-            bytes[offset]
-        });
-        let (kind, layout) = form(code).expect("the library takes no other code");
-        let head = head(bytes, at, layout);
-        at = head.end;
-        parts.push(Part { offset, length: at - offset, kind });
-        if head.children > 0 {
-            open.push(Open { part: parts.len() - 1, left: head.children, element: head.element });
-            continue;
-        }
-        close(&mut open, parts, at);
-        if open.is_empty() {
-            return;
-        }
+pub struct Parts<'a> {
+    bytes: &'a [u8],
+    at: usize,
+    open: Vec<Open>,
+}
+
+impl<'a> Parts<'a> {
+    pub fn of(bytes: &'a [u8]) -> Self {
+        Parts { bytes, at: 0, open: vec![Open { left: 1, element: None }] }
     }
 }
 
-/// One child has ended here, and with it every parent of which it is the last.
-fn close(open: &mut Vec<Open>, parts: &mut [Part], at: usize) {
-    while let Some(parent) = open.last_mut() {
-        parent.left -= 1;
-        if parent.left > 0 {
-            return;
+impl Iterator for Parts<'_> {
+    type Item = Part;
+
+    fn next(&mut self) -> Option<Part> {
+        while self.open.last()?.left == 0 {
+            self.open.pop();
         }
-        let part = &mut parts[parent.part];
-        part.length = at - part.offset;
-        open.pop();
+        let parent = self.open.last_mut()?;
+        parent.left -= 1;
+        let offset = self.at;
+        // An element has its array's code, any other value its own.
+        let (code, behind) = match parent.element {
+            Some(code) => (code, offset),
+            None => (self.bytes[offset], offset + 1),
+        };
+        let (kind, layout) = taken(code);
+        let head = head(self.bytes, behind, layout);
+        self.at = head.body;
+        if head.children > 0 {
+            self.open.push(Open { left: head.children, element: head.element });
+        }
+        Some(Part { offset, length: head.end - offset, kind })
     }
 }
 
@@ -192,7 +217,6 @@ mod tests {
     #[test]
     fn parts_agree_with_the_library() {
         let mut good = 0;
-        let mut parts = Vec::new();
         for name in ["read.txt", "own_read.txt"] {
             let path = format!("{}/../../crates/vectors/data/{name}", env!("CARGO_MANIFEST_DIR"));
             for line in fs::read_to_string(&path).unwrap().lines().filter(|line| !line.starts_with('#')) {
@@ -200,7 +224,7 @@ mod tests {
                 let bytes = bytes_of(field);
                 let Ok(extent) = measure_within(LEVELS_MOST, &bytes) else { continue };
                 let (table, length) = Table::from_prefix_within(LEVELS_MOST, &bytes).unwrap();
-                parts_of(&bytes, &mut parts);
+                let parts: Vec<Part> = Parts::of(&bytes).collect();
                 assert_eq!((parts.len(), parts[0].length), (extent.rows, length), "{line}");
                 assert!(table.rows().map(|row| row.kind()).eq(parts.iter().map(|part| Some(part.kind))), "{line}");
                 good += 1;
@@ -225,9 +249,7 @@ mod tests {
             let kind = read.as_ref().and_then(|(table, _)| table.root()?.kind());
             assert_eq!(form(code).map(|(kind, _)| kind), kind, "{code:02x}");
             if let Some((_, length)) = read {
-                let mut parts = Vec::new();
-                parts_of(&bytes, &mut parts);
-                assert_eq!(parts[0].length, length, "{code:02x}");
+                assert_eq!(Parts::of(&bytes).next().map(|part| part.length), Some(length), "{code:02x}");
             }
         }
     }

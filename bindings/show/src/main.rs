@@ -3,7 +3,6 @@
 mod extents;
 mod json;
 mod options;
-mod reader;
 mod refused;
 mod text;
 mod tree;
@@ -15,11 +14,11 @@ use std::io::{self, stderr, stdin, stdout, BufWriter, IsTerminal, Read, Write};
 use std::path::Path;
 use std::process::ExitCode;
 
-use afsungar::LEVELS_MOST;
+use afsungar::{Table, LEVELS_MOST};
 
+use crate::extents::Parts;
 use crate::json::Json;
 use crate::options::{Options, Task};
-use crate::reader::Reader;
 use crate::refused::{good_parts, Refused};
 use crate::tree::Tree;
 use crate::walk::{walk, Print, Spot};
@@ -83,19 +82,19 @@ fn show(bytes: &[u8], options: &Options) -> io::Result<bool> {
         failed("there are no bytes, and so no values", 0);
     }
     let out = BufWriter::with_capacity(GATHERED, stdout().lock());
-    let mut reader = Reader::default();
+    let mut table = Table::default();
     if options.json {
         let mut json = Json::new(out);
-        let refused = show_values(&mut json, &mut reader, bytes)?;
+        let refused = show_values(&mut json, &mut table, bytes)?;
         refused.iter().try_for_each(|refused| json.refused(refused))?;
         json.finish()?;
         return Ok(refused.is_none());
     }
     let mut tree = Tree::new(out, options.colour, options.full, bytes.len());
-    let Some(refused) = show_values(&mut tree, &mut reader, bytes)? else {
+    let Some(refused) = show_values(&mut tree, &mut table, bytes)? else {
         return tree.finish().map(|()| true);
     };
-    let inner = good_parts(&mut tree, &mut reader, bytes, refused.start)?;
+    let inner = good_parts(&mut tree, &mut table, bytes, refused.start)?;
     tree.finish()?;
     let explained = refused.explain(bytes, inner).map_err(io::Error::other)?;
     let _ = stderr().write_all(explained.as_bytes());
@@ -103,15 +102,16 @@ fn show(bytes: &[u8], options: &Options) -> io::Result<bool> {
 }
 
 /// Prints all values up to one that is refused.
-fn show_values(print: &mut impl Print, reader: &mut Reader, bytes: &[u8]) -> io::Result<Option<Refused>> {
+fn show_values(print: &mut impl Print, table: &mut Table, bytes: &[u8]) -> io::Result<Option<Refused>> {
     let (mut at, mut index) = (0, 0);
     while at < bytes.len() {
-        let length = match reader.read(LEVELS_MOST, &bytes[at..]) {
-            Ok(length) => length,
+        let extent = match table.read_from_within(LEVELS_MOST, &bytes[at..]) {
+            Ok(extent) => extent,
             Err(refusal) => return Ok(Some(Refused::new(&refusal, at, index))),
         };
-        walk(print, Spot::top(at), &reader.table, &reader.parts)?;
-        at += length;
+        debug_assert!(Parts::of(&bytes[at..]).next().is_some_and(|whole| whole.length == extent.length));
+        walk(print, Spot::top(at), table, &bytes[at..])?;
+        at += extent.length;
         index += 1;
     }
     Ok(None)

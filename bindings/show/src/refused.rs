@@ -3,10 +3,9 @@
 use std::fmt::{self, Write as _};
 use std::io::{self, Write};
 
-use afsungar::{Kind, Refusal, LEVELS_MOST};
+use afsungar::{Kind, Refusal, Table, LEVELS_MOST};
 
 use crate::extents::{form, number, Layout};
-use crate::reader::Reader;
 use crate::tree::Tree;
 use crate::walk::{walk, Place, Spot};
 
@@ -117,7 +116,7 @@ fn head(bytes: &[u8], at: usize, end: usize) -> Option<Head> {
 /// refused.
 ///
 /// Each list, map and described value on the way to the fault is opened, and the library asked for its children in turn.
-pub fn good_parts<W: Write>(tree: &mut Tree<W>, reader: &mut Reader, bytes: &[u8], start: usize) -> io::Result<usize> {
+pub fn good_parts<W: Write>(tree: &mut Tree<W>, table: &mut Table, bytes: &[u8], start: usize) -> io::Result<usize> {
     let (mut spot, mut end) = (Spot::top(start), bytes.len());
     loop {
         let head = match head(bytes, spot.base, end) {
@@ -125,7 +124,7 @@ pub fn good_parts<W: Write>(tree: &mut Tree<W>, reader: &mut Reader, bytes: &[u8
             _ => return tree.refused(spot).map(|()| spot.base),
         };
         tree.opened(spot, &head)?;
-        match good_children(tree, reader, &bytes[..head.end], spot.depth, &head)? {
+        match good_children(tree, table, &bytes[..head.end], spot.depth, &head)? {
             Some(child) => (spot, end) = (child, head.end),
             None => return Ok(spot.base),
         }
@@ -135,7 +134,7 @@ pub fn good_parts<W: Write>(tree: &mut Tree<W>, reader: &mut Reader, bytes: &[u8
 /// Prints the children up to the first that is refused, and gives its place; none if all are good.
 fn good_children<W: Write>(
     tree: &mut Tree<W>,
-    reader: &mut Reader,
+    table: &mut Table,
     room: &[u8],
     depth: usize,
     head: &Head,
@@ -144,11 +143,11 @@ fn good_children<W: Write>(
     let mut base = head.body;
     for passed in 0..head.count {
         let spot = Spot { place: Place::below(head.kind, passed), first: passed == 0, depth: depth + 1, base };
-        match reader.read(limit, &room[base..]) {
-            Ok(length) => base += length,
-            Err(_) => return Ok(Some(spot)),
-        }
-        walk(tree, spot, &reader.table, &reader.parts)?;
+        let Ok(extent) = table.read_from_within(limit, &room[base..]) else {
+            return Ok(Some(spot));
+        };
+        walk(tree, spot, table, &room[base..])?;
+        base += extent.length;
     }
     Ok(None)
 }

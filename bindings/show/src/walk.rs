@@ -4,7 +4,7 @@ use std::io;
 
 use afsungar::{Kind, Row, Table};
 
-use crate::extents::Part;
+use crate::extents::{Part, Parts};
 
 /// What a part is to its parent.
 #[derive(Clone, Copy, Debug, PartialEq, Eq)]
@@ -75,12 +75,12 @@ impl Open {
     }
 }
 
-/// Prints the value of a table that was read, which stands at `spot`.
-pub fn walk(print: &mut impl Print, spot: Spot, table: &Table, parts: &[Part]) -> io::Result<()> {
+/// Prints the value at the front of the bytes, which stands at `spot` and was read to this table.
+pub fn walk(print: &mut impl Print, spot: Spot, table: &Table, bytes: &[u8]) -> io::Result<()> {
     let mut open: Vec<Open> = Vec::new();
-    for (row, part) in table.rows().zip(parts) {
+    for (row, part) in table.rows().zip(Parts::of(bytes)) {
         let spot = open.last_mut().map_or(spot, Open::next);
-        print.enter(spot, &row, part)?;
+        print.enter(spot, &row, &part)?;
         if row.count() > 0 {
             open.push(Open { spot, kind: part.kind, count: row.count(), passed: 0 });
             continue;
