@@ -157,6 +157,14 @@ offset length
 }
 
 #[test]
+fn the_end_of_the_input_is_told_only_where_it_is_in_the_way() {
+    // a string of 5 bytes, all of them there, in a list that has room for none
+    let ran = run(&[], &hex("c0 03 01 a1 05 61 62 63 64 65"));
+    assert!(ran.err.starts_with(&said(9, SHORT, 3, 0, "which is the first")), "{}", ran.err);
+    assert!(!ran.err.contains("it would end"), "{}", ran.err);
+}
+
+#[test]
 fn a_map_of_an_odd_count_is_not_opened() {
     assert_eq!(run(&[], &hex("c1 04 03 41 42 40")).out, "offset length\n     0         refused\n");
 }
