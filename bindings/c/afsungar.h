@@ -134,7 +134,7 @@ static inline const char *afsungar_refusal_text(uint64_t number) {
     case AFSUNGAR_ROWS_AMISS: return "a row is missing or left over";
     case AFSUNGAR_KIND_UNKNOWN: return "the kind is not one of the 25";
     case AFSUNGAR_TOO_DEEP: return "a value stands deeper than the level limit of the call";
-    case AFSUNGAR_ELEMENT_UNFIT: return "an array tells a kind that it cannot hold, or an element has another one";
+    case AFSUNGAR_ELEMENT_UNFIT: return "an array's element code is not allowed, or an array tells a kind that it cannot hold, or an element has another one";
     case AFSUNGAR_NUMBER_OUTSIDE: return "the number is not one that the row's kind allows";
     case AFSUNGAR_TEXT_AMISS: return "text is missing or left over, or a string is not UTF-8 or a symbol not ASCII";
     case AFSUNGAR_TOO_LONG: return "more than 1,048,576 bytes would be written";

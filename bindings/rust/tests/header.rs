@@ -74,14 +74,17 @@ fn the_version() {
     assert_eq!(versions, [env!("CARGO_PKG_VERSION")]);
 }
 
-/// The header has the words of this crate. For a 6 it has those of both cases.
+/// The header has the words of this crate. For a 4 it has those of reading and of writing, and for a 6 those of both cases.
 #[test]
 fn the_words_of_the_refusals() {
     let Some(words) = quoted("case AFSUNGAR_") else { return };
-    let said = |refusal: Refusal| refusal.to_string().split(" (").next().unwrap().to_string();
+    let said = |refusal: Refusal| refusal.words();
     let due = Reason::ALL.map(|reason| match reason {
+        Reason::ElementUnfit => {
+            format!("{}, or {}", said(Refusal::reading(reason, 0)), said(Refusal::writing(reason, 0)))
+        }
         Reason::TextAmiss => format!("{}, or {}", said(Refusal::writing(reason, 0)), said(Refusal::bad_text(0))),
-        _ => said(Refusal::writing(reason, 0)),
+        _ => said(Refusal::writing(reason, 0)).to_owned(),
     });
     assert_eq!(words, due);
 }
