@@ -13,7 +13,7 @@ const RIGHT: [Vent; 1] = [("Ø1.2", -35, -12)];
 
 fn main() -> Result<(), Box<dyn Error>> {
     let order = order("6f1c0a52-3b8e-4d10-9a77-21e455d00c3f".parse()?);
-    let bytes = order.to_bytes().map_err(|refusal| order.explain(refusal).to_string())?;
+    let bytes = order.to_bytes().map_err(|refusal| order.explain(refusal))?;
     println!("{} bytes", bytes.len());
     read_order(&bytes)
 }

@@ -1,6 +1,7 @@
 use alloc::format;
 use alloc::string::{String, ToString};
 use alloc::vec::Vec;
+use core::error::Error;
 use core::fmt;
 
 use crate::kind::{element_code, text_length};
@@ -37,6 +38,8 @@ impl fmt::Display for Explanation {
         }
     }
 }
+
+impl Error for Explanation {}
 
 impl Table {
     /// Where a row stands, from the root, `$`, down: `$.vents[2]`.
