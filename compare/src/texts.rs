@@ -77,8 +77,11 @@ fn sort_name(sort: usize) -> String {
     }
 }
 
+/// Words for a spot, and whether a bad text stands there.
+type Spot = (&'static str, fn(&Bad) -> bool);
+
 /// Where a bad text stands.
-const SPOTS: [(&str, fn(&Bad) -> bool); 6] = [
+const SPOTS: [Spot; 6] = [
     ("a text in no array", |bad| bad.arrays == 0),
     ("a text in one array", |bad| bad.arrays == 1),
     ("a text in arrays in one another, with lists or maps between them or not", |bad| bad.arrays > 1),
