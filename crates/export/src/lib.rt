@@ -4,6 +4,8 @@
 // place is 0, on a refusal each length and each count is 0. A slice is a pointer and a length.
 //
 // Each comes in two forms: `afsungar_NAME_within` takes the level limit as its first parameter, and `afsungar_NAME` is the same at 16.
+#![tactic(auto)]
+
 ghost use Rattle.std.specs.Prelude.{◌≡◌};
 ghost use Rattle.standard.specs.Outcomes as outcome;
 ghost use Rattle.standard.specs.Outcomes.{level_default};

@@ -3,6 +3,8 @@
 // A header is a described list of four fields. It is written as its table is, and read by a decision on the value that arrived.
 // The codec is seen through its promises alone: it measures the whole value first, and each part that has to be looked at is then
 // read by itself, as one row with a text of a few bytes. So whatever stands in place of a field, however large, needs no more room.
+#![tactic(auto)]
+
 pub mod numbers;
 mod reading;
 mod refusal;

@@ -1,4 +1,6 @@
 // Reads the first value of standard input, and prints its rows (docs/FORMAT.md, 8).
+#![tactic(auto)]
+
 ghost use Rattle.std.specs.Prelude.{◌≡◌, length};
 ghost use Rattle.standard.specs.Outcomes.{level_most, over};
 ghost use Rattle.standard.specs.Listing.{listing};

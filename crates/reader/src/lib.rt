@@ -4,6 +4,8 @@
 // bytes of text it reads to. Reading measures first, and refuses if the lent memory is too small, before anything is stored.
 // Then one more pass over the bytes, which are now known to be well-formed, stores a row for each value and copies the text.
 // What stands behind the value is not looked at.
+#![tactic(auto)]
+
 mod filling;
 mod measuring;
 mod number;

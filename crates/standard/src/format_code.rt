@@ -84,7 +84,7 @@ pub const ARRAY_8: u8 = 0xe0;
 pub const ARRAY_32: u8 = 0xf0;
 
 // A list, a map or an array whose size and count have one byte each.
-#[derive(Drop)]
+#[derive(Clone, Copy)]
 pub struct Compound8;
 
 impl Compound8 {
@@ -92,7 +92,7 @@ impl Compound8 {
 }
 
 // A list, a map or an array whose size and count have four bytes each.
-#[derive(Drop)]
+#[derive(Clone, Copy)]
 pub struct Compound32;
 
 impl Compound32 {
@@ -100,7 +100,7 @@ impl Compound32 {
 }
 
 // What stands behind a format code.
-#[derive(Drop)]
+#[derive(Clone, Copy)]
 pub enum Layout {
     // No format code.
     Unknown,
@@ -123,9 +123,10 @@ pub enum Layout {
 }
 
 // The kind of row that a code reads to, and what stands behind the code.
-#[derive(Drop)]
+#[derive(Clone, Copy)]
 pub struct Entry(pub u64, pub Layout);
 
+#[tactic(auto, unfolding(crate::specs::Codes::entry_of, crate::specs::Codes::codes, crate::specs::Choose::lookup, crate::specs::InCode::entry_is))]
 pub fn entry_of(code: u8) -> Entry
     ensures { entry_is code result ≡ entry_of code }
 {

@@ -8,7 +8,7 @@ ghost use Rattle.standard.specs.InCode.{style_is};
 use crate::format_code;
 
 // The shorter forms of a number, by their format codes.
-#[derive(Drop)]
+#[derive(Clone, Copy)]
 pub enum Short {
     Never,
     // For 1, and for 0.
@@ -20,7 +20,7 @@ pub enum Short {
 }
 
 // What a row holds. The format code of the wide form is the kind itself; the codes of shorter forms are named here.
-#[derive(Drop)]
+#[derive(Clone, Copy)]
 pub enum Style {
     // None of the 25 kinds.
     Foreign,
@@ -38,6 +38,7 @@ pub enum Style {
     Describing,
 }
 
+#[tactic(auto, unfolding(crate::specs::Kinds::style_of, crate::specs::Kinds::kinds, crate::specs::Choose::lookup, crate::specs::InCode::style_is))]
 pub fn style_of(kind: u64) -> Style
     ensures { style_is result ≡ style_of kind }
 {
@@ -84,6 +85,7 @@ pub const MOST: u64 = 0x10_0000;
 pub const KIND_UNIT: u64 = 0x1_0000_0000;
 
 // Is a boolean 0 or 1, and a char no surrogate and at most 0x10ffff. Every other number is fair.
+#[tactic(auto, unfolding(crate::specs::Kinds::fair))]
 pub fn is_fair(kind: u64, number: u64) -> bool
     ensures { result ≡ fair kind number }
 {
@@ -138,6 +140,7 @@ fn least_negative(width: usize) -> u64
 }
 
 // Does a number of so many bytes, two's complement, fit one byte: from −128 to 127.
+#[tactic(auto, unfolding(crate::specs::Encode::fits_byte))]
 pub fn fits_byte(number: u64, width: usize) -> bool
     ensures { result ≡ fits_byte width number }
 {
@@ -151,6 +154,7 @@ pub fn fits_byte(number: u64, width: usize) -> bool
 }
 
 // May the number of an array's row name that kind, as far as arrays can hold it: 0 names none, and what is no kind is refused for that.
+#[tactic(auto, unfolding(crate::specs::Kinds::nameable))]
 pub fn is_nameable(kind: u64) -> bool
     ensures { result ≡ nameable kind }
 {
@@ -165,6 +169,7 @@ pub fn is_nameable(kind: u64) -> bool
 }
 
 impl Style {
+    #[tactic(auto, unfolding(crate::specs::Kinds::is_kind, crate::specs::InCode::style_is))]
     pub fn is_kind(self) -> bool
         ensures { result ≡ is_kind (style_is self) }
     {
@@ -181,6 +186,7 @@ impl Style {
     }
 
     // May a row of this style be an element of an array.
+    #[tactic(auto, unfolding(crate::specs::Kinds::member, crate::specs::InCode::style_is))]
     pub fn is_member(self) -> bool
         ensures { result ≡ member (style_is self) }
     {
@@ -197,6 +203,7 @@ impl Style {
     }
 
     // How many bytes of text belong to a row of this style.
+    #[tactic(auto, unfolding(crate::specs::Table::letters, crate::specs::InCode::style_is))]
     pub fn letters(self, number: u64) -> u64
         ensures { result ≡ letters (style_is self) number }
     {
@@ -213,6 +220,7 @@ impl Style {
     }
 
     // How many children belong to a row of this style.
+    #[tactic(auto, unfolding(crate::specs::Table::children, crate::specs::Kinds::count_in, crate::specs::InCode::style_is))]
     pub fn children(self, number: u64) -> u64
         ensures { result ≡ children (style_is self) number }
     {
@@ -229,6 +237,7 @@ impl Style {
     }
 
     // Is a number in the table's range for its kind, which is of this style.
+    #[tactic(auto, unfolding(crate::specs::Table::ranged, crate::specs::Kinds::count_in, crate::specs::Kinds::kind_in, crate::specs::InCode::style_is))]
     pub fn takes(self, kind: u64, number: u64) -> bool
         ensures { result ≡ ranged (style_is self) kind number }
     {

@@ -10,6 +10,7 @@ pub const MOST: usize = 32;
 pub const DEFAULT: usize = 16;
 
 // May that limit be named.
+#[tactic(auto, unfolding(crate::specs::Outcomes::in_force))]
 pub fn is_in_force(limit: usize) -> bool
     ensures { result ≡ in_force limit }
 {

@@ -33,7 +33,7 @@ pub const TEXT_SHORT: usize = 14;
 pub const LIMIT_OUTSIDE: usize = 15;
 
 // Why something was refused, and where: at a row in writing, at an offset in reading.
-#[derive(Drop)]
+#[derive(Clone, Copy)]
 pub struct Refusal {
     pub number: usize,
     pub place: usize,

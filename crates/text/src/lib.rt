@@ -1,4 +1,6 @@
 // The text check: RFC 3629 for strings, ASCII for symbols (docs/FORMAT.md, 4.6).
+#![tactic(auto)]
+
 ghost use Rattle.std.specs.Prelude.{◌≡◌, [], ◌∷◌, ◌+◌, ◌-◌, ◌≤◌, min, leb, take, drop};
 ghost use Rattle.standard.specs.Text.{from◌to◌, tail, utf8, ascii, lead_in, fault_in};
 ghost use Rattle.standard.specs.Kinds.{flaw, good_length};

@@ -1,5 +1,7 @@
 // Replays the stored cases of data/ and compares the answers. It prints each case that differs, and for each file how many cases it has
 // and how many answers were right. A program has no exit status of its own: what it prints is held to the file `stdout`.
+#![tactic(auto)]
+
 ghost use Rattle.std.specs.Prelude.{◌+◌, ◌^◌, ◌<◌, ◌≤◌, length};
 ghost use Rattle.io.specs.Counts.{IsPrefixLen};
 

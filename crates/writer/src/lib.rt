@@ -5,6 +5,8 @@
 // marks go to the end of the region that will be written, and one pass over the rows writes each head and text and takes the marks
 // as it comes to them. What is still to be written is never shorter than the marks that are still to be taken, so none is
 // overwritten before its turn. A table with more compounds is gone over once more, without checks, to put its marks there.
+#![tactic(auto)]
+
 ghost use Rattle.std.specs.Prelude.{◌≡◌, ℕ, ◌-◌, ◌≤◌, ◌<◌, List, leb, length, take};
 ghost use Rattle.standard.specs.Outcomes as outcome;
 ghost use Rattle.standard.specs.Outcomes.{level_most, level_default};
