@@ -23,7 +23,7 @@ const OWN: u64 = 256;
 
 // A row; where its text begins in the bytes, and how long it is; how many children come next, and behind which code. What stands
 // behind the row begins where its text ends.
-#[derive(Drop)]
+#[derive(Clone, Copy)]
 pub struct Row {
     pub kind: u64,
     pub number: u64,
@@ -34,7 +34,7 @@ pub struct Row {
 }
 
 // The runs that are due: the one on top has so many values behind that code, and so many runs are kept below it.
-#[derive(Drop)]
+#[derive(Clone, Copy)]
 pub struct Due {
     pub left: u64,
     pub code: u64,
@@ -42,7 +42,7 @@ pub struct Due {
 }
 
 // The code of a value, and where what stands behind it begins.
-#[derive(Drop)]
+#[derive(Clone, Copy)]
 pub struct Code(pub u8, pub usize);
 
 // A byte, two's complement, in four or eight bytes.

@@ -19,7 +19,7 @@ use standard::kind::Style;
 use standard::{format_code, kind};
 
 // The next row and its text, where it is written, and the next mark.
-#[derive(Drop)]
+#[derive(Clone, Copy)]
 pub struct Cursor {
     pub row: usize,
     pub text: usize,

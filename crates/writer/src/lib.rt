@@ -35,7 +35,7 @@ use standard::{kind, limit, refusal};
 const NEAR: usize = 600;
 
 // The length in bytes of what is written, or why nothing is.
-#[derive(Drop)]
+#[derive(Clone, Copy)]
 pub enum Written {
     Length(usize),
     Refused(Refusal),

@@ -24,7 +24,7 @@ const STACK: usize = 96;
 
 // The next row, the bytes before it, the next mark, how many rows are due before the innermost open compound ends, whether they are
 // elements of an array, and how many numbers are on the stack.
-#[derive(Drop)]
+#[derive(Clone, Copy)]
 pub struct Point {
     pub row: usize,
     pub size: usize,
