@@ -273,7 +273,7 @@ fn after_row(
 ) -> Due
     requires { (1 ≤ due.left) × (due.kept < level_most) × Kept lefts.old codes.old due.kept }
     ensures { Kept lefts.new codes.new result.kept
-        × (dueIs lefts.new codes.new result ≡ push children (headIs code) (push (due.left - 1) (headIs due.code) (keptIs lefts.old codes.old due.kept))) }
+        × (due_is lefts.new codes.new result ≡ push children (head_is code) (push (due.left - 1) (head_is due.code) (kept_is lefts.old codes.old due.kept))) }
 {
     let left = due.left - 1;
     let kept = due.kept;
@@ -316,7 +316,7 @@ fn put_text(text: &mut [u8], at: usize, bytes: &[u8], from: usize, count: usize)
 pub(crate) fn fill(bytes: &[u8], words: &mut [u64], text: &mut [u8], rows: usize)
     requires { Fillable bytes.now words.old text.old rows }
     ensures { (words.new ≡ over (rows_in (front level_most bytes.now)) words.old)
-        × (text.new ≡ over (textIn (front levelMost bytes.now)) text.old) }
+        × (text.new ≡ over (text_in (front level_most bytes.now)) text.old) }
 {
     let mut lefts = [0u64; limit::MOST];
     let mut codes = [0u64; limit::MOST];

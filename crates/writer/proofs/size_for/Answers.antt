@@ -14,4 +14,4 @@ pub put_near-requires : goal.put_near-requires
 put_near-requires c = (marks_inside _ _ _ _ _ _ (rw c.in-Fits.is at c.size_table-all.ensures), c.if-out-e.false)
 
 pub returns : goal.returns
-returns c = let f = rw c.in-Fits.is at c.size_table-all.ensures in (writable _ _ _ _ _ _ f refl c.size_table-all.auto.1.1.1.0 _ c.if-out-e.false _ c.put_near.ensures, write_good _ _ _ _ _ _ _ f c.if-out-e.false)
+returns c = let f = rw c.in-Fits.is at c.size_table-all.ensures in (writable _ _ _ _ _ _ f refl c.size_table-all.auto.marks _ c.if-out-e.false _ c.put_near.ensures, write_good _ _ _ _ _ _ _ f c.if-out-e.false)

@@ -11,13 +11,13 @@ pub fill_rows-requires : goal.fill_rows-requires
 fill_rows-requires c = let q = table_again _ _ _ _ _ _ c.requires.1 _ _ (rw c.new.ensures at c.fill_values-c.ensures) in (q.kind, q.us, q.vs, q.due)
 
 pub shape_of-out-then-c-n : goal.shape_of-out-then-c-n
-shape_of-out-then-c-n c = c.fill_rows.auto.1.1.0 ∙ c.fill_values-c.auto.1.1.0
+shape_of-out-then-c-n c = c.fill_rows.auto.out ∙ c.fill_values-c.auto.out
 
 pub returns-then-c-n : goal.returns-then-c-n
 returns-then-c-n c = λ v f. let q = table_again _ _ _ _ _ v f _ _ (rw c.new.ensures at c.fill_values-c.ensures) in let e = q.filled _ _ (c.fill_rows.ensures q.kind q.us q.vs q.due) in table_filled _ _ v _ _ (record { bytes = e.0; place = e.1 })
 
 pub shape_of-out-else-c-n : goal.shape_of-out-else-c-n
-shape_of-out-else-c-n c = c.fill_values-c.auto.1.1.0
+shape_of-out-else-c-n c = c.fill_values-c.auto.out
 
 pub returns-else-c-n : goal.returns-else-c-n
 returns-else-c-n c = λ v f. table_done _ _ _ _ _ v f _ _ (rw c.new.ensures at c.fill_values-c.ensures) c.if-c-n.false

@@ -22,10 +22,7 @@ pub loop-c-smaller : goal.loop-c-smaller
 loop-c-smaller c = let g = plain_turn (c.loop-c.invariant.1 c.requires.0 c.requires.1 c.requires.3 c.requires.2) c.loop-c-test.true in omega (arith, g.0.ready.row, ap (λ z. z.row) c.put_item-c.ensures.place)
 
 pub loop-c-preserved : goal.loop-c-preserved
-loop-c-preserved c = (c.put_item-c.auto.1.1.0 ∙ c.loop-c.invariant.0, λ k vs e h. (plain_turn (c.loop-c.invariant.1 k vs e h) c.loop-c-test.true).1 _ _ c.put_item-c.ensures)
-
-pub shape_of-out : goal.shape_of-out
-shape_of-out c = c.loop-c.invariant.0
+loop-c-preserved c = (c.put_item-c.auto.out ∙ c.loop-c.invariant.0, λ k vs e h. (plain_turn (c.loop-c.invariant.1 k vs e h) c.loop-c-test.true).1 _ _ c.put_item-c.ensures)
 
 pub returns : goal.returns
 returns c = λ k vs e h. let f = finished (c.loop-c.invariant.1 k vs e h) c.loop-c-test.false in record { bytes = f.0; place = f.1 }

@@ -4,8 +4,5 @@ use Rattle.writer.proofs.filling.fill_run.Goals as goal
 pub fill_values-behind-requires : goal.fill_values-behind-requires
 fill_values-behind-requires c = c.requires
 
-pub shape_of-out : goal.shape_of-out
-shape_of-out c = c.fill_values-behind.auto.1.1.0
-
 pub returns : goal.returns
 returns c = c.fill_values-behind.ensures

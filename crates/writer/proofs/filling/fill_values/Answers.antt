@@ -31,10 +31,7 @@ pub loop-c-smaller : goal.loop-c-smaller
 loop-c-smaller c = omega (arith, ran_row c.loop-c.invariant.1 c.requires c.loop-c-test.true, ap (λ z. z.row) c.put_value-c.ensures.place)
 
 pub loop-c-preserved : goal.loop-c-preserved
-loop-c-preserved c = (c.put_value-c.auto.1.1.0 ∙ c.loop-c.invariant.0, ran_on c.loop-c.invariant.1 c.loop-c-test.true (no_array _ c.if-words-c-eq240.false) c.put_value-c.ensures)
-
-pub shape_of-out : goal.shape_of-out
-shape_of-out c = c.loop-c.invariant.0
+loop-c-preserved c = (c.put_value-c.auto.out ∙ c.loop-c.invariant.0, ran_on c.loop-c.invariant.1 c.loop-c-test.true (no_array _ c.if-words-c-eq240.false) c.put_value-c.ensures)
 
 pub returns : goal.returns
 returns c = ran_end c.loop-c.invariant.1 (λ h. absurd (omega (arith, c.loop-c-test.false)))

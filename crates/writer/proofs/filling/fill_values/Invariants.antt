@@ -7,7 +7,7 @@ use Rattle.writer.proofs.Rows.{no_array, Ran, ran_none, ran_row, ran_ready, ran_
 use Rattle.writer.proofs.filling.fill_values.Given as goal
 
 abbrev pub invariant-loop-c : goal.invariant-loop-c
-invariant-loop-c l = (length l.last ≡ length l.initial.out) × Ran l.words l.text l.initial.out l.out l.initial.c l.last l.c
+invariant-loop-c l = (length l.out ≡ length l.initial.out) × Ran l.words l.text l.initial.out l.last l.initial.c l.out l.c
 
 abbrev pub decreases-loop-c : goal.decreases-loop-c
 decreases-loop-c l = length l.words - 2 * l.c.row

@@ -32,7 +32,7 @@ overflow_add-out c = omega (arith, (room (goal.at.overflow_add-out c).Start).1, 
 
 pub bounds-out-at : goal.bounds-out-at
 unfolding count_in kind_in
-bounds-out-at c = omega (arith, (room (goal.at.bounds-out-at c).Start).1, c.put_array_fields-size.ensures.size, c.put_array_fields-size.auto.0)
+bounds-out-at c = omega (arith, (room (goal.at.bounds-out-at c).Start).1, c.put_array_fields-size.ensures.size, c.put_array_fields-size.auto.out)
 
 pub overflow_add-size : goal.overflow_add-size
 unfolding count_in kind_in

@@ -13,10 +13,7 @@ pub overflow_add-at-3 : goal.overflow_add-at-3
 overflow_add-at-3 c = omega (arith, c.requires, c.well_formed.0, length_head c.args.h)
 
 pub put_be-requires-2 : goal.put_be-requires-2
-put_be-requires-2 c = omega (arith, c.requires, c.put_be.auto.0, length_head c.args.h, length-set c.args.out.now c.args.at c.args.h.code)
-
-pub shape_of-out : goal.shape_of-out
-shape_of-out c = c.put_be-2.auto.0 ∙ c.put_be.auto.0 ∙ length-set c.args.out.now c.args.at c.args.h.code
+put_be-requires-2 c = omega (arith, c.requires, c.put_be.auto.out, length_head c.args.h, length-set c.args.out.now c.args.at c.args.h.code)
 
 pub returns : goal.returns
 returns c = rw (c.put_be-2.ensures, c.put_be.ensures) (head_put c.args.out.now c.args.at c.args.h)

@@ -12,7 +12,7 @@ pub overflow_add-c : goal.overflow_add-c
 overflow_add-c c = let o = scalar_parts _ _ _ _ c.requires.0 c.requires.1 c.requires.2 _ c.style_of-style.ensures _ c.letters-letters.ensures _ c.item_width-width.ensures in omega (arith, o.size, o.ready.room, c.well_formed.1.1.0.0)
 
 pub put_text-requires : goal.put_text-requires
-put_text-requires c = let o = scalar_parts _ _ _ _ c.requires.0 c.requires.1 c.requires.2 _ c.style_of-style.ensures _ c.letters-letters.ensures _ c.item_width-width.ensures in (omega (arith, o.size, o.ready.room, c.put_be.auto.0), omega (arith, o.texts, o.ready.texts))
+put_text-requires c = let o = scalar_parts _ _ _ _ c.requires.0 c.requires.1 c.requires.2 _ c.style_of-style.ensures _ c.letters-letters.ensures _ c.item_width-width.ensures in (omega (arith, o.size, o.ready.room, c.put_be.auto.out), omega (arith, o.texts, o.ready.texts))
 
 pub overflow_add-width : goal.overflow_add-width
 overflow_add-width c = let o = scalar_parts _ _ _ _ c.requires.0 c.requires.1 c.requires.2 _ c.style_of-style.ensures _ c.letters-letters.ensures _ c.item_width-width.ensures in omega (arith, o.size, o.ready.room, c.well_formed.1.1.0.0)

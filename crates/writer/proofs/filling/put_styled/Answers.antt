@@ -39,7 +39,7 @@ pub overflow_add-c : goal.overflow_add-c
 overflow_add-c c = let o = here (goal.at.overflow_add-c c).After-head_of-h in omega (arith, o.size, o.ready.room, c.well_formed.1.1.0.0)
 
 pub put_text-requires : goal.put_text-requires
-put_text-requires c = let o = here (goal.at.put_text-requires c).After-head_of-h in (omega (arith, o.size, o.ready.room, c.put_head.auto.0), omega (arith, o.texts, o.ready.texts))
+put_text-requires c = let o = here (goal.at.put_text-requires c).After-head_of-h in (omega (arith, o.size, o.ready.room, c.put_head.auto.out), omega (arith, o.texts, o.ready.texts))
 
 pub overflow_add-size-3 : goal.overflow_add-size-3
 overflow_add-size-3 c = let o = here (goal.at.overflow_add-size-3 c).After-head_of-h in omega (arith, o.size, o.ready.room, c.well_formed.1.1.0.0)

@@ -14,17 +14,17 @@ small : (s : Start) → (length s.args.text.now < 2 ^ 64) × (length s.args.out.
 small s = (s.well_formed.1.0.0, s.well_formed.1.1.0.0)
 
 -- the output behind a number that is none, a compound that is none, and letters that are none
-no_number : (c : Else-size-gt0) → c.put_number-size.new.0 ≡ c.args.out.now
+no_number : (c : Else-size-gt0) → c.put_number-size.new.out ≡ c.args.out.now
 no_number c = unput _ _ _ _ _ c.put_number-size.ensures c.if-size-gt0.false
 
-no_compound : (c : Else-size-gt0-2) → c.put_compound-size.new.0 ≡ c.args.out.now
-no_compound c = unput _ _ _ _ _ c.put_compound-size.ensures c.if-size-gt0-2.false ∙ no_number c.to-Else-size-gt0
+no_compound : (c : Else-size-gt0-2) → c.put_compound-size.new.out ≡ c.args.out.now
+no_compound c = unput _ _ _ _ _ c.put_compound-size.ensures c.if-size-gt0-2.false ∙ unput _ _ _ _ _ c.put_number-size.ensures c.if-size-gt0.false
 
-no_letters : (c : Else-size-gt0-3) → c.put_letters-size.new.0 ≡ c.args.out.now
-no_letters c = unput _ _ _ _ _ c.put_letters-size.ensures c.if-size-gt0-3.false ∙ no_compound c.to-Else-size-gt0-2
+no_letters : (c : Else-size-gt0-3) → c.put_letters-size.new.out ≡ c.args.out.now
+no_letters c = unput _ _ _ _ _ c.put_letters-size.ensures c.if-size-gt0-3.false ∙ unput _ _ _ _ _ c.put_compound-size.ensures c.if-size-gt0-2.false ∙ unput _ _ _ _ _ c.put_number-size.ensures c.if-size-gt0.false
 
-code_fits : (c : Then-kind-eq0) → c.args.c.at + 1 ≤ length c.put_letters-size.new.0
-code_fits c = front_fits _ _ _ _ c.requires.0 (small (goal.at.None c).Start) _ (no_letters c.to-Else-size-gt0-3) (0 ∷ []) 0 0 (described_front _ _ _ _ c.if-kind-eq0.true)
+code_fits : (c : Then-kind-eq0) → c.args.c.at + 1 ≤ length c.put_letters-size.new.out
+code_fits c = front_fits _ _ _ _ c.requires.0 (c.well_formed.1.0.0, c.well_formed.1.1.0.0) _ (unput _ _ _ _ _ c.put_letters-size.ensures c.if-size-gt0-3.false ∙ unput _ _ _ _ _ c.put_compound-size.ensures c.if-size-gt0-2.false ∙ unput _ _ _ _ _ c.put_number-size.ensures c.if-size-gt0.false) (0 ∷ []) 0 0 (described_front _ _ _ _ c.if-kind-eq0.true)
 
 pub put_number-size-requires : goal.put_number-size-requires
 put_number-size-requires c = front_fits _ _ _ _ c.requires.0 (small (goal.at.put_number-size-requires c).Start) _ refl _ 0 0 (number_front _ _ _ _ _)
@@ -34,7 +34,7 @@ behind-requires c =
     front_behind _ _ _ _ c.requires.0 (small (goal.at.behind-requires c).Start) _ refl _ 0 0 (number_front _ _ _ _ _) _ _ c.put_number-size.ensures c.if-size-gt0.true c.well_formed.0.0
 
 pub shape_of-out-then-size-gt0 : goal.shape_of-out-then-size-gt0
-shape_of-out-then-size-gt0 c = c.put_number-size.auto.0
+shape_of-out-then-size-gt0 c = c.put_number-size.auto.out
 
 pub returns-then-size-gt0 : goal.returns-then-size-gt0
 returns-then-size-gt0 c =
@@ -50,7 +50,7 @@ behind-requires-then-size-gt0-2 c =
     front_behind _ _ _ _ c.requires.0 (small (goal.at.behind-requires-then-size-gt0-2 c).Start) _ (no_number (goal.at.behind-requires-then-size-gt0-2 c).Else-size-gt0) _ 0 3 (compound_front _ _ _ _ _) _ _ c.put_compound-size.ensures c.if-size-gt0-2.true c.well_formed.0.0
 
 pub shape_of-out-then-size-gt0-2 : goal.shape_of-out-then-size-gt0-2
-shape_of-out-then-size-gt0-2 c = c.put_compound-size.auto.0 ∙ ap length (no_number (goal.at.shape_of-out-then-size-gt0-2 c).Else-size-gt0)
+shape_of-out-then-size-gt0-2 c = c.put_compound-size.auto.out ∙ ap length (no_number (goal.at.shape_of-out-then-size-gt0-2 c).Else-size-gt0)
 
 pub returns-then-size-gt0-2 : goal.returns-then-size-gt0-2
 returns-then-size-gt0-2 c =
@@ -64,7 +64,7 @@ behind-requires-then-size-gt0-3 c =
     front_behind _ _ _ _ c.requires.0 (small (goal.at.behind-requires-then-size-gt0-3 c).Start) _ (no_compound (goal.at.behind-requires-then-size-gt0-3 c).Else-size-gt0-2) _ _ 0 (letters_front _ _ _ _ _) _ _ c.put_letters-size.ensures c.if-size-gt0-3.true c.well_formed.0.0
 
 pub shape_of-out-then-size-gt0-3 : goal.shape_of-out-then-size-gt0-3
-shape_of-out-then-size-gt0-3 c = c.put_letters-size.auto.0 ∙ ap length (no_compound (goal.at.shape_of-out-then-size-gt0-3 c).Else-size-gt0-2)
+shape_of-out-then-size-gt0-3 c = c.put_letters-size.auto.out ∙ ap length (no_compound (goal.at.shape_of-out-then-size-gt0-3 c).Else-size-gt0-2)
 
 pub returns-then-size-gt0-3 : goal.returns-then-size-gt0-3
 returns-then-size-gt0-3 c =

@@ -19,4 +19,4 @@ returns-in-240 c = rw c.in-240.is (box_some (count_in c.args.number))
 
 pub returns-in_default : goal.returns-in_default
 unfolding lookup kinds style_of mark_width count_in
-returns-in_default c = not_boxed c.args.kind c.args.number c.in_default.rest
+returns-in_default c = not_boxed c.args.kind c.args.number c.in_default.in_default-own.rest

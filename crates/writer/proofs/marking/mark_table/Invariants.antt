@@ -10,7 +10,7 @@ use Rattle.writer.proofs.Onward.{Due, to_go, few_words, goal, begun, left_small,
 use Rattle.writer.proofs.marking.mark_table.Given as goal
 
 abbrev pub invariant-loop-c : goal.invariant-loop-c
-invariant-loop-c l = (v : Tree) → Markable l.words l.initial.out l.out v → Due l.words (goal l.initial.out l.out v) l.stack l.mark l.c
+invariant-loop-c l = (v : Tree) → Markable l.words l.initial.out l.mark v → Due l.words (goal l.initial.out l.mark v) l.stack l.out l.c
 
 abbrev pub decreases-loop-c : goal.decreases-loop-c
 decreases-loop-c l = to_go l.words l.c

@@ -77,4 +77,4 @@ returns-in-132 c = rw c.in-132.is (sym (coded_long 132 8 c.args.number))
 
 pub returns-in_default : goal.returns-in_default
 unfolding kinds
-returns-in_default c = let a = c.args in rw (no_number a.kind (a.kind % 256) a.number c.in_default.rest)
+returns-in_default c = let a = c.args in rw (no_number a.kind (a.kind % 256) a.number c.in_default.in_default-own.rest)

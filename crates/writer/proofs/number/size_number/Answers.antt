@@ -73,4 +73,4 @@ returns-in-132 c = rw c.in-132.is (fairly never 8 132 c.args.number _ (c.size_ne
 
 pub returns-in_default : goal.returns-in_default
 unfolding lookup kinds style_of fair ranged number_size
-returns-in_default c = no_number_kind _ _ c.in_default.rest
+returns-in_default c = no_number_kind _ _ c.in_default.in_default-own.rest

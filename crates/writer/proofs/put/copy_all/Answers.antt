@@ -16,9 +16,6 @@ loop-k-preserved c = let a = c.args in
     let o = c.loop-k in
     (omega arith, simp length-set o.invariant.1, text_goes_on o.out a.text.now a.at a.from a.count o.k c.loop-k-test.true c.requires.1 ∙ o.invariant.2)
 
-pub shape_of-out : goal.shape_of-out
-shape_of-out c = c.loop-k.invariant.1
-
 pub returns : goal.returns
 returns c = let a = c.args in
     let o = c.loop-k in

@@ -9,7 +9,7 @@ use Rattle.laws.specs.Stores.{left, text_begins, text_goes_on, text_ends}
 use Rattle.writer.proofs.put.copy_all.Given as goal
 
 abbrev pub invariant-loop-k : goal.invariant-loop-k
-invariant-loop-k l = (l.k ≤ l.from) × (length l.count ≡ length l.initial.out) × (sets l.count (l.out + l.k) (left l.at l.text l.from l.k) ≡ sets l.initial.out l.out (take l.from (drop l.text l.at)))
+invariant-loop-k l = (l.k ≤ l.count) × (length l.out ≡ length l.initial.out) × (sets l.out (l.at + l.k) (left l.text l.from l.count l.k) ≡ sets l.initial.out l.at (take l.count (drop l.from l.text)))
 
 abbrev pub decreases-loop-k : goal.decreases-loop-k
-decreases-loop-k l = l.from - l.k
+decreases-loop-k l = l.count - l.k

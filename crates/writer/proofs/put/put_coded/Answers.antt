@@ -12,9 +12,6 @@ put_be-requires c = let a = c.args in simp length-set (omega (arith, c.requires,
 pub overflow_add-result : goal.overflow_add-result
 overflow_add-result c = omega (arith, c.requires, c.well_formed.0, coded_long c.args.code c.args.width c.args.number)
 
-pub shape_of-out : goal.shape_of-out
-shape_of-out c = c.put_be.auto.0 ∙ simp length-set
-
 pub returns : goal.returns
 returns c = let a = c.args in
     record {

@@ -26,8 +26,5 @@ bounds-out-at-7 c = simp length-set (omega arith)
 pub bounds-out-at-8 : goal.bounds-out-at-8
 bounds-out-at-8 c = simp length-set (omega arith)
 
-pub shape_of-out : goal.shape_of-out
-shape_of-out c = simp length-set
-
 pub returns : goal.returns
 returns c = spread c.args.out.now c.args.at 7 c.args.number

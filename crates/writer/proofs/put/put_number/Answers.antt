@@ -140,4 +140,4 @@ returns-in-132 c = rw c.in-132.is c.put_coded-in-132.ensures
 
 pub returns-in_default : goal.returns-in_default
 unfolding kinds
-returns-in_default c = let a = c.args in rw (no_number a.kind (a.kind % 256) a.number c.in_default.rest) (record { size = refl; stored = refl })
+returns-in_default c = let a = c.args in rw (no_number a.kind (a.kind % 256) a.number c.in_default.in_default-own.rest) (record { size = refl; stored = refl })

@@ -23,7 +23,7 @@ pub overflow_add-at : goal.overflow_add-at
 overflow_add-at c = omega (arith, c.requires.1, c.well_formed.0, long (goal.at.overflow_add-at c).Start, c.put_coded-size.ensures.size)
 
 pub put_text-requires : goal.put_text-requires
-put_text-requires c = (omega (arith, c.requires.1, long (goal.at.put_text-requires c).Start, c.put_coded-size.ensures.size, c.put_coded-size.auto.0), c.requires.0)
+put_text-requires c = (omega (arith, c.requires.1, long (goal.at.put_text-requires c).Start, c.put_coded-size.ensures.size, c.put_coded-size.auto.out), c.requires.0)
 
 pub overflow_add-result : goal.overflow_add-result
 overflow_add-result c = omega (arith, c.requires.1, c.well_formed.0, long (goal.at.overflow_add-result c).Start, c.put_coded-size.ensures.size)

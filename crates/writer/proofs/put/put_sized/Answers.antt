@@ -22,7 +22,7 @@ pub overflow_add-at : goal.overflow_add-at
 overflow_add-at c = omega (arith, c.requires.1, c.well_formed.0, long (goal.at.overflow_add-at c).Start, c.put_coded-size.ensures.size)
 
 pub put_be-requires : goal.put_be-requires
-put_be-requires c = omega (arith, c.requires.1, long (goal.at.put_be-requires c).Start, c.put_coded-size.ensures.size, c.put_coded-size.auto.0)
+put_be-requires c = omega (arith, c.requires.1, long (goal.at.put_be-requires c).Start, c.put_coded-size.ensures.size, c.put_coded-size.auto.out)
 
 pub overflow_add-result : goal.overflow_add-result
 overflow_add-result c = omega (arith, c.requires.1, c.well_formed.0, long (goal.at.overflow_add-result c).Start, c.put_coded-size.ensures.size)

@@ -11,8 +11,5 @@ bounds-out-at-2 c = simp length-set (omega arith)
 pub bounds-out-at-3 : goal.bounds-out-at-3
 bounds-out-at-3 c = simp length-set (omega arith)
 
-pub shape_of-out : goal.shape_of-out
-shape_of-out c = simp length-set
-
 pub returns : goal.returns
 returns c = spread c.args.out.now c.args.at 2 c.args.number

@@ -8,8 +8,5 @@ use Rattle.writer.proofs.put.put_two.Goals as goal
 pub bounds-out-at-2 : goal.bounds-out-at-2
 bounds-out-at-2 c = simp length-set (omega arith)
 
-pub shape_of-out : goal.shape_of-out
-shape_of-out c = simp length-set
-
 pub returns : goal.returns
 returns c = spread c.args.out.now c.args.at 1 c.args.number

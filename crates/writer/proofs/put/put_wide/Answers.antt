@@ -15,8 +15,5 @@ loop-left-init c = (omega arith, refl, refl)
 pub loop-left-preserved : goal.loop-left-preserved
 loop-left-preserved c = let o = c.loop-left in (omega arith, simp length-set o.invariant.1, last_first o.out c.args.at o.left o.rest c.loop-left-test.true ∙ o.invariant.2)
 
-pub shape_of-out : goal.shape_of-out
-shape_of-out c = c.loop-left.invariant.1
-
 pub returns : goal.returns
 returns c = let o = c.loop-left in none_left o.out c.args.at o.left o.rest c.loop-left-test.false ∙ o.invariant.2

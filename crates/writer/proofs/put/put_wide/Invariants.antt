@@ -10,7 +10,7 @@ use Rattle.writer.proofs.Stores.{last_first, none_left}
 use Rattle.writer.proofs.put.put_wide.Given as goal
 
 abbrev pub invariant-loop-left : goal.invariant-loop-left
-invariant-loop-left l = (l.left ≤ l.at) × (length l.number ≡ length l.initial.out) × (sets l.number l.out (be l.left l.rest) ≡ sets l.initial.out l.out (be l.at l.width))
+invariant-loop-left l = (l.left ≤ l.width) × (length l.out ≡ length l.initial.out) × (sets l.out l.at (be l.left l.rest) ≡ sets l.initial.out l.at (be l.width l.number))
 
 abbrev pub decreases-loop-left : goal.decreases-loop-left
 decreases-loop-left l = l.left

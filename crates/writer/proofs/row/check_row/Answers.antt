@@ -23,28 +23,28 @@ words c =
 
 -- what a check that was passed says of the row
 known : (c : Else-not-is_kind) → let a = c.args in is_kind (style_of (get_or a.words.now (2 * a.row) 0)) ≡ true
-known c = rw (← c.style_of-style.ensures, ← c.is_kind.ensures) (not_false _ c.if-not-is_kind.false)
+known c = rw (← c.style_of-style.ensures, ← c.is_kind.ensures) c.if-not-is_kind.false
 
 fits : (c : Else-not-is_allowed) → let a = c.args in allowed (spot_is a.spot) (get_or a.words.now (2 * a.row) 0) ≡ true
-fits c = rw (← c.is_allowed.ensures) (not_false _ c.if-not-is_allowed.false)
+fits c = rw (← c.is_allowed.ensures) c.if-not-is_allowed.false
 
 ranges : (c : Else-not-takes) → let a = c.args in ranged (style_of (get_or a.words.now (2 * a.row) 0)) (get_or a.words.now (2 * a.row) 0) (get_or a.words.now (2 * a.row + 1) 0) ≡ true
-ranges c = rw (← c.style_of-style.ensures, ← c.takes.ensures) (not_false _ c.if-not-takes.false)
+ranges c = rw (← c.style_of-style.ensures, ← c.takes.ensures) c.if-not-takes.false
 
 pub returns-then-words-k-lt2 : goal.returns-then-words-k-lt2
 returns-then-words-k-lt2 c = (sym (check_missing _ _ _ _ _ _ (rw length-drop (omega arith))), tt)
 
 pub returns-then-not-is_kind : goal.returns-then-not-is_kind
-returns-then-not-is_kind c = (rw (words (goal.at.returns-then-not-is_kind c).After-shared_slice_known-4-1) (sym (check_kind _ _ _ _ _ _ _ _ (rw (← c.style_of-style.ensures, ← c.is_kind.ensures) (not_true _ c.if-not-is_kind.true)))), tt)
+returns-then-not-is_kind c = (rw (words (goal.at.returns-then-not-is_kind c).After-shared_slice_known-4-1) (sym (check_kind _ _ _ _ _ _ _ _ (rw (← c.style_of-style.ensures, ← c.is_kind.ensures) c.if-not-is_kind.true))), tt)
 
 pub returns-then-levels-eq0 : goal.returns-then-levels-eq0
 returns-then-levels-eq0 c = (rw (words (goal.at.returns-then-levels-eq0 c).After-shared_slice_known-4-1) (sym (check_deep _ _ _ _ _ _ _ _ (known (goal.at.returns-then-levels-eq0 c).Else-not-is_kind) c.if-levels-eq0.true)), tt)
 
 pub returns-then-not-is_allowed : goal.returns-then-not-is_allowed
-returns-then-not-is_allowed c = (rw (words (goal.at.returns-then-not-is_allowed c).After-shared_slice_known-4-1) (sym (check_element _ _ _ _ _ _ _ (known (goal.at.returns-then-not-is_allowed c).Else-not-is_kind) _ (omega (arith, c.if-levels-eq0.false)) (rw (← c.is_allowed.ensures) (not_true _ c.if-not-is_allowed.true)))), tt)
+returns-then-not-is_allowed c = (rw (words (goal.at.returns-then-not-is_allowed c).After-shared_slice_known-4-1) (sym (check_element _ _ _ _ _ _ _ (known (goal.at.returns-then-not-is_allowed c).Else-not-is_kind) _ (omega (arith, c.if-levels-eq0.false)) (rw (← c.is_allowed.ensures) c.if-not-is_allowed.true))), tt)
 
 pub returns-then-not-takes : goal.returns-then-not-takes
-returns-then-not-takes c = (rw (words (goal.at.returns-then-not-takes c).After-shared_slice_known-4-1, c.outside.ensures, c.style_of-style.ensures) (sym (check_number _ _ _ _ _ _ _ (known (goal.at.returns-then-not-takes c).Else-not-is_kind) _ (omega (arith, c.if-levels-eq0.false)) (fits (goal.at.returns-then-not-takes c).Else-not-is_allowed) (rw (← c.style_of-style.ensures, ← c.takes.ensures) (not_true _ c.if-not-takes.true)))), tt)
+returns-then-not-takes c = (rw (words (goal.at.returns-then-not-takes c).After-shared_slice_known-4-1, c.outside.ensures, c.style_of-style.ensures) (sym (check_number _ _ _ _ _ _ _ (known (goal.at.returns-then-not-takes c).Else-not-is_kind) _ (omega (arith, c.if-levels-eq0.false)) (fits (goal.at.returns-then-not-takes c).Else-not-is_allowed) (rw (← c.style_of-style.ensures, ← c.takes.ensures) c.if-not-takes.true))), tt)
 
 pub returns-then-letters-from : goal.returns-then-letters-from
 returns-then-letters-from c = (rw (words (goal.at.returns-then-letters-from c).After-shared_slice_known-4-1) (sym (check_short _ _ _ _ _ _ _ (known (goal.at.returns-then-letters-from c).Else-not-is_kind) (fits (goal.at.returns-then-letters-from c).Else-not-is_allowed) (ranges (goal.at.returns-then-letters-from c).Else-not-takes) _ (omega (arith, c.if-levels-eq0.false)) (rw (length-drop, ← c.style_of-style.ensures, ← c.letters-count.ensures) c.if-letters-from.true))), tt)

@@ -99,4 +99,4 @@ returns-in-240 c = rw c.in-240.is
 
 pub returns-in_default : goal.returns-in_default
 unfolding lookup kinds style_of member
-returns-in_default c = sym (other member refl c.args.kind c.in_default.rest)
+returns-in_default c = sym (other member refl c.args.kind c.in_default.in_default-own.rest)

@@ -20,4 +20,4 @@ returns-in-179 c = rw c.in-179.is
 
 pub returns-in_default : goal.returns-in_default
 unfolding style_of lookup kinds
-returns-in_default c = sym (other is_lettered refl c.args.kind c.in_default.rest)
+returns-in_default c = sym (other is_lettered refl c.args.kind c.in_default.in_default-own.rest)

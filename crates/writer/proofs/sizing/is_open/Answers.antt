@@ -30,4 +30,4 @@ returns-else-number-eq0-2 c = rw c.in-209.is (map_closed c.args.number c.if-numb
 
 pub returns-in_default : goal.returns-in_default
 unfolding lookup kinds style_of ranged children nests opens
-returns-in_default c = not_open c.args.kind c.args.number c.in_default.rest
+returns-in_default c = not_open c.args.kind c.args.number c.in_default.in_default-own.rest
