@@ -11,6 +11,7 @@ use prog.Routine.{Routine}
 use types.Logic.{Logic}
 use contract.Lifetimes.{Lfts}
 use contract.Monad.{Fun, fact}
+use denote.MutBor.{MutBor}
 use denote.Ref.{Bor}
 use Rattle.standard.specs.Outcomes as outcome
 use Rattle.standard.specs.Outcomes.{level_default}
@@ -43,54 +44,54 @@ StepPromise l b i o = stepping (outcome.step l b i) ≡ o
 
 -- a reference at entry and at exit: p and q the place, n and m the length, i and j the rows, u and v the bytes of text
 module _ {M : Type 1} {𝓤 : Ura M} (𝓛 : Logic 𝓤) (mem : Memory → SProp 𝓤) (run : Routine → Fun 𝓤) where
-  pub size_within_promise : (κs : Lfts 4) (l : ℕ) (w x : Bor (List ℕ)) (p n q m : Bor ℕ) (r : ℕ)
+  pub size_within_promise : (κs : Lfts 4) (l : ℕ) (w x : Bor (List ℕ)) (p n q m : MutBor ℕ) (r : ℕ)
       → size-within.ensures-1 𝓛 κs mem run l w x p n (record { entry = l; exit = l }) (record { entry = w; exit = w }) (record { entry = x; exit = x }) (record { entry = p; exit = q }) (record { entry = n; exit = m }) r
       ≡ fact 𝓤 (SizePromise l w.now x.now (record { code = r; place = q.now; length = m.now }))
   size_within_promise κs l w x p n q m r = refl
 
-  pub size_promise : (κs : Lfts 4) (w x : Bor (List ℕ)) (p n q m : Bor ℕ) (r : ℕ)
+  pub size_promise : (κs : Lfts 4) (w x : Bor (List ℕ)) (p n q m : MutBor ℕ) (r : ℕ)
       → size.ensures-1 𝓛 κs mem run w x p n (record { entry = w; exit = w }) (record { entry = x; exit = x }) (record { entry = p; exit = q }) (record { entry = n; exit = m }) r
       ≡ fact 𝓤 (SizePromise level_default w.now x.now (record { code = r; place = q.now; length = m.now }))
   size_promise κs w x p n q m r = refl
 
-  pub write_within_promise : (κs : Lfts 5) (l : ℕ) (w x b d : Bor (List ℕ)) (p n q m : Bor ℕ) (r : ℕ)
+  pub write_within_promise : (κs : Lfts 5) (l : ℕ) (w x : Bor (List ℕ)) (b d : MutBor (List ℕ)) (p n q m : MutBor ℕ) (r : ℕ)
       → write-within.ensures-1 𝓛 κs mem run l w x b p n (record { entry = l; exit = l }) (record { entry = w; exit = w }) (record { entry = x; exit = x }) (record { entry = b; exit = d }) (record { entry = p; exit = q }) (record { entry = n; exit = m }) r
       ≡ fact 𝓤 (WritePromise l w.now x.now b.now (record { answer = record { code = r; place = q.now; length = m.now }; out = d.now }))
   write_within_promise κs l w x b d p n q m r = refl
 
-  pub write_promise : (κs : Lfts 5) (w x b d : Bor (List ℕ)) (p n q m : Bor ℕ) (r : ℕ)
+  pub write_promise : (κs : Lfts 5) (w x : Bor (List ℕ)) (b d : MutBor (List ℕ)) (p n q m : MutBor ℕ) (r : ℕ)
       → write.ensures-1 𝓛 κs mem run w x b p n (record { entry = w; exit = w }) (record { entry = x; exit = x }) (record { entry = b; exit = d }) (record { entry = p; exit = q }) (record { entry = n; exit = m }) r
       ≡ fact 𝓤 (WritePromise level_default w.now x.now b.now (record { answer = record { code = r; place = q.now; length = m.now }; out = d.now }))
   write_promise κs w x b d p n q m r = refl
 
-  pub measure_within_promise : (κs : Lfts 5) (l : ℕ) (b : Bor (List ℕ)) (p n i u q m j v : Bor ℕ) (r : ℕ)
+  pub measure_within_promise : (κs : Lfts 5) (l : ℕ) (b : Bor (List ℕ)) (p n i u q m j v : MutBor ℕ) (r : ℕ)
       → measure-within.ensures-1 𝓛 κs mem run l b p n i u (record { entry = l; exit = l }) (record { entry = b; exit = b }) (record { entry = p; exit = q }) (record { entry = n; exit = m }) (record { entry = i; exit = j }) (record { entry = u; exit = v }) r
       ≡ fact 𝓤 (MeasurePromise l b.now (record { code = r; place = q.now; length = m.now; rows = j.now; text = v.now }))
   measure_within_promise κs l b p n i u q m j v r = refl
 
-  pub measure_promise : (κs : Lfts 5) (b : Bor (List ℕ)) (p n i u q m j v : Bor ℕ) (r : ℕ)
+  pub measure_promise : (κs : Lfts 5) (b : Bor (List ℕ)) (p n i u q m j v : MutBor ℕ) (r : ℕ)
       → measure.ensures-1 𝓛 κs mem run b p n i u (record { entry = b; exit = b }) (record { entry = p; exit = q }) (record { entry = n; exit = m }) (record { entry = i; exit = j }) (record { entry = u; exit = v }) r
       ≡ fact 𝓤 (MeasurePromise level_default b.now (record { code = r; place = q.now; length = m.now; rows = j.now; text = v.now }))
   measure_promise κs b p n i u q m j v r = refl
 
-  pub read_within_promise : (κs : Lfts 7) (l : ℕ) (b w x d y : Bor (List ℕ)) (p n i u q m j v : Bor ℕ) (r : ℕ)
+  pub read_within_promise : (κs : Lfts 7) (l : ℕ) (b : Bor (List ℕ)) (w x d y : MutBor (List ℕ)) (p n i u q m j v : MutBor ℕ) (r : ℕ)
       → read-within.ensures-1 𝓛 κs mem run l b w x p n i u (record { entry = l; exit = l }) (record { entry = b; exit = b }) (record { entry = w; exit = d }) (record { entry = x; exit = y })
       (record { entry = p; exit = q }) (record { entry = n; exit = m }) (record { entry = i; exit = j }) (record { entry = u; exit = v }) r
       ≡ fact 𝓤 (ReadPromise l b.now w.now x.now (record { answer = record { code = r; place = q.now; length = m.now; rows = j.now; text = v.now }; words = d.now; letters = y.now }))
   read_within_promise κs l b w x d y p n i u q m j v r = refl
 
-  pub read_promise : (κs : Lfts 7) (b w x d y : Bor (List ℕ)) (p n i u q m j v : Bor ℕ) (r : ℕ)
+  pub read_promise : (κs : Lfts 7) (b : Bor (List ℕ)) (w x d y : MutBor (List ℕ)) (p n i u q m j v : MutBor ℕ) (r : ℕ)
       → read.ensures-1 𝓛 κs mem run b w x p n i u (record { entry = b; exit = b }) (record { entry = w; exit = d }) (record { entry = x; exit = y })
       (record { entry = p; exit = q }) (record { entry = n; exit = m }) (record { entry = i; exit = j }) (record { entry = u; exit = v }) r
       ≡ fact 𝓤 (ReadPromise level_default b.now w.now x.now (record { answer = record { code = r; place = q.now; length = m.now; rows = j.now; text = v.now }; words = d.now; letters = y.now }))
   read_promise κs b w x d y p n i u q m j v r = refl
 
-  pub step_within_promise : (κs : Lfts 4) (l : ℕ) (b : Bor (List ℕ)) (a p n c q m : Bor ℕ) (r : ℕ)
+  pub step_within_promise : (κs : Lfts 4) (l : ℕ) (b : Bor (List ℕ)) (a p n c q m : MutBor ℕ) (r : ℕ)
       → step_within.ensures-1 𝓛 κs mem run l b a p n (record { entry = l; exit = l }) (record { entry = b; exit = b }) (record { entry = a; exit = c }) (record { entry = p; exit = q }) (record { entry = n; exit = m }) r
       ≡ fact 𝓤 (StepPromise l b.now a.now (record { answer = record { code = r; place = q.now; length = m.now }; at = c.now }))
   step_within_promise κs l b a p n c q m r = refl
 
-  pub step_promise : (κs : Lfts 4) (b : Bor (List ℕ)) (a p n c q m : Bor ℕ) (r : ℕ)
+  pub step_promise : (κs : Lfts 4) (b : Bor (List ℕ)) (a p n c q m : MutBor ℕ) (r : ℕ)
       → step.ensures-1 𝓛 κs mem run b a p n (record { entry = b; exit = b }) (record { entry = a; exit = c }) (record { entry = p; exit = q }) (record { entry = n; exit = m }) r
       ≡ fact 𝓤 (StepPromise level_default b.now a.now (record { answer = record { code = r; place = q.now; length = m.now }; at = c.now }))
   step_promise κs b a p n c q m r = refl
