@@ -1,16 +1,18 @@
 // Reads the first value of standard input, and prints its rows (docs/FORMAT.md, 8).
 #![tactic(auto)]
 
-ghost use Rattle.std.specs.Prelude.{◌≡◌, length};
+ghost use Rattle.std.specs.Prelude.{◌≡◌, length, IfOk};
+ghost use Rattle.io.specs.Counts.{IsPrefixLen};
 ghost use Rattle.standard.specs.Outcomes.{level_most, over};
 ghost use Rattle.standard.specs.Listing.{listing};
 ghost use Rattle.listing.specs.Lines.{Roomy};
 
 mod put;
 
-use libc::{STDIN_FILENO, STDOUT_FILENO};
 use reader::Measured;
 use standard::limit;
+use std::io;
+use std::io::Read;
 
 // The most bytes that are taken.
 const INPUT_MOST: usize = 4096;
@@ -41,13 +43,28 @@ fn list(bytes: &[u8], words: &mut [u64], text: &mut [u8], out: &mut [u8]) -> usi
     }
 }
 
-fn main() {
+// Reads until the buffer is full or the input ends, and gives how many bytes stand at the buffer's front.
+fn read_full<R: Read>(input: &mut R, buffer: &mut [u8]) -> io::Result<usize>
+    ensures { IfOk result (λ n. IsPrefixLen n buffer.new) }
+{
+    let mut done: usize = 0;
+    while done < buffer.len() {
+        let n = input.read(&mut buffer[done..])?;
+        if n == 0 {
+            break;
+        }
+        done += n;
+    }
+    Ok(done)
+}
+
+fn main(rt: HostRuntime) -> io::Result<()> {
     // one byte more than is taken, so that a longer input shows
     let mut input = [0u8; INPUT_MOST + 1];
     let mut words = [0u64; 2 * INPUT_MOST];
     let mut text = [0u8; INPUT_MOST];
     let mut out = [0u8; OUTPUT_MOST];
-    let n = io::read_full(STDIN_FILENO, &mut input);
+    let n = read_full(&mut rt.reader(), &mut input)?;
     let r = list(&input[..n], &mut words, &mut text, &mut out);
-    io::write_all(STDOUT_FILENO, &out[..r]);
+    rt.write_all(&out[..r])
 }

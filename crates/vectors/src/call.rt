@@ -4,7 +4,7 @@ use reader::{Measured, walker};
 use writer::Written;
 
 // How an entry point is called.
-#[derive(Drop)]
+#[derive(Clone, Copy)]
 pub(crate) enum Call {
     Within(usize),
     Plain,

@@ -7,21 +7,21 @@ ghost use Rattle.vectors.specs.Form.{digit_of, Ahead};
 const NOWHERE: usize = usize::MAX;
 
 // A number, and the place behind it.
-#[derive(Drop)]
+#[derive(Clone, Copy)]
 pub(crate) struct Found {
     pub(crate) value: u64,
     pub(crate) at: usize,
 }
 
 // How many items of a buffer were filled, and the place behind them.
-#[derive(Drop)]
+#[derive(Clone, Copy)]
 pub(crate) struct Filled {
     pub(crate) count: usize,
     pub(crate) at: usize,
 }
 
 // A refusal, or number 0 for success, and the place behind it.
-#[derive(Drop)]
+#[derive(Clone, Copy)]
 pub(crate) struct Answer {
     pub(crate) number: u64,
     pub(crate) place: u64,

@@ -10,13 +10,16 @@ mod form;
 mod reading;
 mod writing;
 
-use libc::STDOUT_FILENO;
+use std::fs;
+use std::fs::File;
+use std::os::unix::fs::FileExt;
+use std::rt::Files;
 
 // No file is longer.
 const FILE_MOST: usize = 0x100_0000;
 
 // What the cases of a file replay.
-#[derive(Drop)]
+#[derive(Clone, Copy)]
 enum Entry {
     Size,
     Write,
@@ -26,14 +29,14 @@ enum Entry {
 }
 
 // How many cases there were, and how many of their answers were right.
-#[derive(Drop)]
+#[derive(Clone, Copy)]
 struct Tally {
     cases: u64,
     right: u64,
 }
 
 // The same of one line, with its length.
-#[derive(Drop)]
+#[derive(Clone, Copy)]
 struct Line {
     length: usize,
     cases: u64,
@@ -64,8 +67,9 @@ fn answers_in(entry: Entry) -> u64 {
     }
 }
 
-fn print(s: &[u8]) {
-    io::write_all(STDOUT_FILENO, s);
+// A failed write is not looked at: what the program prints is then not what it should be.
+fn print(rt: &impl Print, s: &[u8]) {
+    let _ = rt.write_all(s);
 }
 
 // The length of the first line.
@@ -83,21 +87,21 @@ fn line_end(s: &[u8]) -> usize
 }
 
 // Replays a case, and prints it where it differs.
-fn replay_case(entry: Entry, name: &[u8], line: &[u8]) -> u64
+fn replay_case(rt: &impl Print, entry: Entry, name: &[u8], line: &[u8]) -> u64
     ensures { result ≤ 2 }
 {
     let right = right_in(entry, line);
     if right < answers_in(entry) {
-        print(name);
-        print(b" differs: ");
-        print(line);
-        print(b"\n");
+        print(rt, name);
+        print(rt, b" differs: ");
+        print(rt, line);
+        print(rt, b"\n");
     }
     right
 }
 
 // Replays the first line of what is left of a file. A line that is empty or begins with `#` is no case.
-fn replay_line(entry: Entry, name: &[u8], rest: &[u8]) -> Line
+fn replay_line(rt: &impl Print, entry: Entry, name: &[u8], rest: &[u8]) -> Line
     ensures { (result.length ≤ length rest.now + 1) × (result.cases ≤ 1) × (result.right ≤ 2) }
 {
     if rest.len() == 0 {
@@ -118,28 +122,30 @@ fn replay_line(entry: Entry, name: &[u8], rest: &[u8]) -> Line
     Line {
         length: end + 1,
         cases: 1,
-        right: replay_case(entry, name, &rest[..end]),
+        right: replay_case(rt, entry, name, &rest[..end]),
     }
 }
 
 // Replays the line at a place of a file. At the file's end there is none, of length 0.
-fn replay_at(entry: Entry, name: &[u8], fd: i32, at: usize) -> Line
+fn replay_at(rt: &impl Print, entry: Entry, name: &[u8], file: &File, at: usize) -> Line
     requires { at < 2 ^ 62 }
     ensures { (result.length < 2 ^ 62) × (result.cases ≤ 1) × (result.right ≤ 2) }
 {
     let mut buffer = io::buffer();
-    let got = libc::pread(fd, &mut buffer, at as i64);
-    let n = io::count(got, &buffer);
-    replay_line(entry, name, &buffer[..n])
+    // where the read fails, as at the file's end
+    let Ok(n) = file.read_at(&mut buffer, at as u64) else {
+        return replay_line(rt, entry, name, &[]);
+    };
+    replay_line(rt, entry, name, &buffer[..n])
 }
 
 // Replays all lines of a file, one after another.
-fn replay_lines(entry: Entry, name: &[u8], fd: i32) -> Tally {
+fn replay_lines(rt: &impl Print, entry: Entry, name: &[u8], file: &File) -> Tally {
     let mut at: usize = 0;
     let mut cases: u64 = 0;
     let mut right: u64 = 0;
     while at < FILE_MOST {
-        let line = replay_at(entry, name, fd, at);
+        let line = replay_at(rt, entry, name, file, at);
         if line.length == 0 {
             break;
         }
@@ -151,30 +157,28 @@ fn replay_lines(entry: Entry, name: &[u8], fd: i32) -> Tally {
 }
 
 // Replays a file, and prints its cases and how many answers were right.
-fn replay(entry: Entry, name: &[u8]) {
-    let fd = os::open_read(name);
-    if fd < 0 {
-        os::fail(name);
-        return;
-    }
-    let all = replay_lines(entry, name, fd);
-    libc::close(fd);
-    print(name);
-    print(b" ");
-    io::print_decimal(STDOUT_FILENO, all.cases);
-    print(b" cases, ");
-    io::print_decimal(STDOUT_FILENO, all.right);
-    print(b" answers right\n");
+fn replay(rt: &HostRuntime, entry: Entry, name: &str) {
+    let file = match fs::open(rt, name) {
+        Ok(file) => file,
+        Err(e) => {
+            let _ = eprintln!(rt; "{name}: {e}");
+            return;
+        }
+    };
+    let all = replay_lines(rt, entry, name.as_bytes(), &file);
+    let cases = all.cases;
+    let right = all.right;
+    let _ = println!(rt; "{name} {cases} cases, {right} answers right");
 }
 
-fn main() {
-    replay(Entry::Size, b"size.txt");
-    replay(Entry::Write, b"write.txt");
-    replay(Entry::Write, b"own_write.txt");
-    replay(Entry::Write, b"original.txt");
-    replay(Entry::Read, b"read.txt");
-    replay(Entry::Read, b"read_room.txt");
-    replay(Entry::Read, b"own_read.txt");
-    replay(Entry::Walk, b"walk.txt");
-    replay(Entry::Start, b"own_walk.txt");
+fn main(rt: HostRuntime) {
+    replay(&rt, Entry::Size, "size.txt");
+    replay(&rt, Entry::Write, "write.txt");
+    replay(&rt, Entry::Write, "own_write.txt");
+    replay(&rt, Entry::Write, "original.txt");
+    replay(&rt, Entry::Read, "read.txt");
+    replay(&rt, Entry::Read, "read_room.txt");
+    replay(&rt, Entry::Read, "own_read.txt");
+    replay(&rt, Entry::Walk, "walk.txt");
+    replay(&rt, Entry::Start, "own_walk.txt");
 }

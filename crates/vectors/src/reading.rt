@@ -14,7 +14,7 @@ use standard::{limit, refusal};
 const WORDS: usize = 4096;
 
 // What stands behind a success: the value's length, how much of the buffers its rows and its text fill, and the place behind it.
-#[derive(Drop)]
+#[derive(Clone, Copy)]
 struct Wanted {
     length: u64,
     words: usize,

@@ -15,7 +15,7 @@ use writer::Written;
 const WORDS: usize = 1024;
 
 // The level limit of a case, how much of the buffers its table fills, and the place behind it.
-#[derive(Drop)]
+#[derive(Clone, Copy)]
 struct Table {
     limit: usize,
     words: usize,
