@@ -133,9 +133,7 @@ fn replay_at(rt: &impl Print, entry: Entry, name: &[u8], file: &File, at: usize)
 {
     let mut buffer = io::buffer();
     // where the read fails, as at the file's end
-    let Ok(n) = file.read_at(&mut buffer, at as u64) else {
-        return replay_line(rt, entry, name, &[]);
-    };
+    let n = file.read_at(&mut buffer, at as u64).unwrap_or(0);
     replay_line(rt, entry, name, &buffer[..n])
 }
 
@@ -157,7 +155,7 @@ fn replay_lines(rt: &impl Print, entry: Entry, name: &[u8], file: &File) -> Tall
 }
 
 // Replays a file, and prints its cases and how many answers were right.
-fn replay(rt: &HostRuntime, entry: Entry, name: &str) {
+fn replay<R: Files<File = File> + Print + Eprint>(rt: &R, entry: Entry, name: &str) {
     let file = match fs::open(rt, name) {
         Ok(file) => file,
         Err(e) => {
