@@ -46,6 +46,7 @@ fn put_number(out: &mut [u8], at: usize, number: u64) -> usize
     put_decimal(out, at + 1, number)
 }
 
+#[tactic(auto, unfolding(standard::specs::Listing::hex_digit))]
 fn hex_digit(digit: u64) -> u8
     requires { digit < 16 }
     ensures { result ≡ hex_digit digit }
