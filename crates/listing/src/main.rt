@@ -24,6 +24,7 @@ const LINE_MOST: usize = 45;
 const OUTPUT_MOST: usize = (INPUT_MOST + 1) * LINE_MOST;
 
 // Puts the listing of an input to the front of the output, and gives its length. Words and text are where the value is read to.
+#[tactic(auto, using(crate::proofs::Shown::large))]
 fn list(bytes: &[u8], words: &mut [u64], text: &mut [u8], out: &mut [u8]) -> usize
     requires { Roomy words.old text.old out.old }
     ensures { (result ≡ length (listing level_most bytes.now))

@@ -4,11 +4,8 @@ use Rattle.standard.specs.Outcomes.{level_most}
 use Rattle.standard.specs.Listing.{listing}
 use Rattle.listing.specs.Lines.{refused_line, output_most}
 use Rattle.listing.proofs.Puts.{then, whole}
-use Rattle.listing.proofs.Shown.{Listed, listed, refused, too_large, listing_short}
+use Rattle.listing.proofs.Shown.{Listed, listed, refused, listing_short}
 use Rattle.listing.proofs.list.Goals as goal
-
-pub returns-then-size-gt-INPUT_MOST : goal.returns-then-size-gt-INPUT_MOST
-returns-then-size-gt-INPUT_MOST c = rw (too_large level_most c.args.bytes.now c.if-size-gt-INPUT_MOST.true) (whole (omega (arith, c.requires.out_room)) c.put_bytes.ensures)
 
 pub overflow_mul-count : goal.overflow_mul-count
 overflow_mul-count c =
