@@ -39,16 +39,16 @@ returns-then-tail_at-2 c = sym (by_lead (goal.at.returns-then-tail_at-2 c).After
 
 pub returns-else-byte_at : goal.returns-else-byte_at
 returns-else-byte_at c = sym (by_lead (goal.at.returns-else-byte_at c).After-lead_of _ c.in-Three.is ∙ rw (stand_more _ _ _ _ 1) (elim c.else-byte_at.branch [
-    else-byte_at-via-then-byte_at+else-tail_at-2 w ↦ rw (sym c.byte_at.ensures ∙ w.if-byte_at.true, sym w.tail_at-then-byte_at.ensures ∙ w.if-tail_at-2.false)
-    | else-byte_at-via-else-byte_at w ↦ rw (sym c.byte_at.ensures ∙ w.if-byte_at.false)
-    ]))
+  | else-byte_at-via-then-byte_at+else-tail_at-2 w ↦ rw (sym c.byte_at.ensures ∙ w.if-byte_at.true, sym w.tail_at-then-byte_at.ensures ∙ w.if-tail_at-2.false)
+  | else-byte_at-via-else-byte_at w ↦ rw (sym c.byte_at.ensures ∙ w.if-byte_at.false)
+]))
 
 pub returns-then-tail_at-4 : goal.returns-then-tail_at-4
 returns-then-tail_at-4 c = sym (by_lead (goal.at.returns-then-tail_at-4 c).After-lead_of _ c.in-Four.is ∙ rw (stand_more _ _ _ _ 1, stand_more _ (tail ∷ []) _ _ 2, sym c.byte_at-in-Four.ensures ∙ c.if-byte_at-2.true, sym c.tail_at-then-byte_at-2.ensures ∙ c.if-tail_at-3.true, sym c.tail_at-then-tail_at-3.ensures ∙ c.if-tail_at-4.true))
 
 pub returns-else-byte_at-2 : goal.returns-else-byte_at-2
 returns-else-byte_at-2 c = sym (by_lead (goal.at.returns-else-byte_at-2 c).After-lead_of _ c.in-Four.is ∙ rw (stand_more _ _ _ _ 1, stand_more _ (tail ∷ []) _ _ 2) (elim c.else-byte_at-2.branch [
-    else-byte_at-2-via-then-byte_at-2+then-tail_at-3+else-tail_at-4 w ↦ rw (sym c.byte_at-in-Four.ensures ∙ w.if-byte_at-2.true, sym w.tail_at-then-byte_at-2.ensures ∙ w.if-tail_at-3.true, sym w.tail_at-then-tail_at-3.ensures ∙ w.if-tail_at-4.false)
-    | else-byte_at-2-via-then-byte_at-2+else-tail_at-3 w ↦ rw (sym c.byte_at-in-Four.ensures ∙ w.if-byte_at-2.true, sym w.tail_at-then-byte_at-2.ensures ∙ w.if-tail_at-3.false)
-    | else-byte_at-2-via-else-byte_at-2 w ↦ rw (sym c.byte_at-in-Four.ensures ∙ w.if-byte_at-2.false)
-    ]))
+  | else-byte_at-2-via-then-byte_at-2+then-tail_at-3+else-tail_at-4 w ↦ rw (sym c.byte_at-in-Four.ensures ∙ w.if-byte_at-2.true, sym w.tail_at-then-byte_at-2.ensures ∙ w.if-tail_at-3.true, sym w.tail_at-then-tail_at-3.ensures ∙ w.if-tail_at-4.false)
+  | else-byte_at-2-via-then-byte_at-2+else-tail_at-3 w ↦ rw (sym c.byte_at-in-Four.ensures ∙ w.if-byte_at-2.true, sym w.tail_at-then-byte_at-2.ensures ∙ w.if-tail_at-3.false)
+  | else-byte_at-2-via-else-byte_at-2 w ↦ rw (sym c.byte_at-in-Four.ensures ∙ w.if-byte_at-2.false)
+]))

@@ -33,7 +33,7 @@ unfolding count_in
 elements-here t c = c.mark_at-elements.ensures.0 ∙ rw ((let e : c.count_mark.result ≡ mark_at c.args.words.now c.args.c = array_mark _ (number_at c.args.words.now c.args.c) c.requires.0 _ c.count_mark.ensures in e))
 
 array-here : (t : ℕ) (c : fill_array-Start t) → (a : List ℕ) (r : Cursor) → Stepped (mode_is c.args.nested) c.args.words.now c.args.text.now c.args.out.now c.args.c a r
-     → ArrayIn (mode_is c.args.nested) c.args.words.now c.args.text.now c.args.out.now c.args.c c.requires.1.1 a r
+    → ArrayIn (mode_is c.args.nested) c.args.words.now c.args.text.now c.args.out.now c.args.c c.requires.1.1 a r
 array-here t c = array_in (mode_is c.args.nested) c.requires.1.2 c.requires.0
 
 left_here : (t : ℕ) (c : fill_rows-At-loop-c t) → Going c.args.words.now c.args.text.now (sets c.args.out.now c.args.start.at (encode* c.requires.1 ++ payloads c.requires.2)) (beyond c.args.start c.requires.1 c.requires.2) c.args.end true c.loop-c.last c.loop-c.out c.loop-c.c
@@ -130,10 +130,10 @@ fill_rows-loop-c-smaller-then-words-c-eq240 t c = let o = whole_turn (left_here 
 pub fill_rows-loop-c-preserved-then-words-c-eq240 : goal.fill_rows-loop-c-preserved-then-words-c-eq240
 unfolding count_in kind_in
 fill_rows-loop-c-preserved-then-words-c-eq240 t c = let o = whole_turn (left_here t (goal.at.fill_rows-loop-c-preserved-then-words-c-eq240 t c).At-loop-c) c.loop-c-test.true _ refl in (
-      c.fill_array-c.auto.out ∙ c.loop-c.invariant.0,
-      omega (arith, c.loop-c.invariant.1, o.less _ _ (c.fill_array-c.ensures o.kind o.tree o.one)),
-      λ k us vs e. let n = whole_turn (c.loop-c.invariant.2 k us vs e) c.loop-c-test.true _ refl in n.next _ _ (c.fill_array-c.ensures n.kind n.tree n.one),
-    )
+  c.fill_array-c.auto.out ∙ c.loop-c.invariant.0,
+  omega (arith, c.loop-c.invariant.1, o.less _ _ (c.fill_array-c.ensures o.kind o.tree o.one)),
+  λ k us vs e. let n = whole_turn (c.loop-c.invariant.2 k us vs e) c.loop-c-test.true _ refl in n.next _ _ (c.fill_array-c.ensures n.kind n.tree n.one),
+)
 
 pub fill_rows-overflow_mul-c-then-nested : goal.fill_rows-overflow_mul-c-then-nested
 unfolding count_in kind_in
@@ -170,10 +170,10 @@ fill_rows-loop-c-smaller-then-nested t c = omega (arith, row_here t (goal.at.fil
 pub fill_rows-loop-c-preserved-then-nested : goal.fill_rows-loop-c-preserved-then-nested
 unfolding count_in kind_in
 fill_rows-loop-c-preserved-then-nested t c = (
-      c.put_nested-c.auto.out ∙ c.loop-c.invariant.0,
-      omega (arith, c.loop-c.invariant.1, ap (λ z. z.row) c.put_nested-c.ensures.place),
-      λ k us vs e. (nested-here t (goal.at.fill_rows-loop-c-preserved-then-nested t c).Then-nested (c.loop-c.invariant.2 k us vs e)).next _ _ c.put_nested-c.ensures _ (ap (λ (x : ℕ). c.put_nested-c.result.at + x) (body-here t (goal.at.fill_rows-loop-c-preserved-then-nested t c).After-mark_at-body)),
-    )
+  c.put_nested-c.auto.out ∙ c.loop-c.invariant.0,
+  omega (arith, c.loop-c.invariant.1, ap (λ z. z.row) c.put_nested-c.ensures.place),
+  λ k us vs e. (nested-here t (goal.at.fill_rows-loop-c-preserved-then-nested t c).Then-nested (c.loop-c.invariant.2 k us vs e)).next _ _ c.put_nested-c.ensures _ (ap (λ (x : ℕ). c.put_nested-c.result.at + x) (body-here t (goal.at.fill_rows-loop-c-preserved-then-nested t c).After-mark_at-body)),
+)
 
 pub fill_rows-fill_run-c-requires : goal.fill_rows-fill_run-c-requires
 unfolding count_in kind_in
@@ -186,10 +186,10 @@ fill_rows-loop-c-smaller t c = omega (arith, row_here t (goal.at.fill_rows-loop-
 pub fill_rows-loop-c-preserved : goal.fill_rows-loop-c-preserved
 unfolding count_in kind_in
 fill_rows-loop-c-preserved t c = (
-      c.fill_run-c.auto.out ∙ c.loop-c.invariant.0,
-      omega (arith, c.loop-c.invariant.1, c.fill_run-c.ensures.onward),
-      λ k us vs e. c.fill_run-c.ensures.left _ _ _ (c.loop-c.invariant.2 k us vs e),
-    )
+  c.fill_run-c.auto.out ∙ c.loop-c.invariant.0,
+  omega (arith, c.loop-c.invariant.1, c.fill_run-c.ensures.onward),
+  λ k us vs e. c.fill_run-c.ensures.left _ _ _ (c.loop-c.invariant.2 k us vs e),
+)
 
 pub fill_rows-returns : goal.fill_rows-returns
 unfolding count_in kind_in

@@ -35,5 +35,5 @@ returns-in-209 c = rw (c.in-209.is, ne_eqb _ _ c.if-count-eq0.false) c.put_marke
 
 pub returns-in_default : goal.returns-in_default
 unfolding kinds
-returns-in_default c =     let a = c.args in
+returns-in_default c = let a = c.args in
     rw (no_compound a.kind (a.kind % 256) a.count (unbe (take 3 (drop a.mark a.out.now))) c.if-count-eq0.false c.in_default.in_default-own.rest) (record { size = refl; stored = refl })

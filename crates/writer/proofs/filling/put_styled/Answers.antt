@@ -16,7 +16,6 @@ here : (c : After-head_of-h) →
     let a = c.args in
     Parts values a.words.now a.text.now a.out.now a.c (head_is c.head_of-h.result) (1 + c.head_of-h.result.width + c.head_of-h.result.count_width) c.letters-letters.result c.mark_width-width.result
 here c =
-    
     let h = c.head_of-h.result in
     parts values c.args.words.now c.args.text.now c.args.out.now c.args.c c.requires.0 (style_is c.style_of-style.result) c.style_of-style.ensures c.mark_width-width.result c.mark_width-width.ensures c.letters-letters.result c.letters-letters.ensures c.mark_at-body.result (1 + h.width + h.count_width) (head_is h) c.mark_at-body.ensures.0 c.head_of-h.ensures (length_head h)
 

@@ -37,5 +37,5 @@ returns-in-179 c = rw c.in-179.is (rw c.in-179.is at c.put_lettered-in-179.ensur
 
 pub returns-in_default : goal.returns-in_default
 unfolding kinds
-returns-in_default c =     let a = c.args in
+returns-in_default c = let a = c.args in
     rw (no_letters a.kind (a.kind % 256) a.number (drop a.from a.text.now) c.in_default.in_default-own.rest) (record { size = refl; stored = refl })

@@ -34,9 +34,9 @@ nested-told t c e = rw e at (nest_sure c.loop-left.invariant c.loop-left-test.tr
 nested-finds : (t : ℕ) (c : size_items-Joined-told-eq240 t) → Finds c.args.words.now c.args.text.now (c.args.levels - 1) (spot_by c.args.told (get_or c.args.words.now (2 * c.loop-left.c.row + 1) 0)) (count_under c.args.told (get_or c.args.words.now (2 * c.loop-left.c.row + 1) 0)) (inside c.loop-left.c c.args.told) c.loop-left.marks c.if-told-eq240.marks c.if-told-eq240.below × (length c.if-told-eq240.marks ≡ length c.loop-left.marks)
 unfolding count_in kind_in
 nested-finds t c = elim c.if-told-eq240.branch [
-    size_items-then-told-eq240 w ↦ rw (w.marks-is, w.below-is, w.if-told-eq240.true) (w.size_elements-below.ensures, w.size_elements-below.auto.marks)
-    | size_items-else-told-eq240 w ↦ rw (w.marks-is, w.below-is, ne_eqb _ 0xf0 w.if-told-eq240.false) (w.size_children-below.ensures, w.size_children-below.auto.marks)
-    ]
+  | size_items-then-told-eq240 w ↦ rw (w.marks-is, w.below-is, w.if-told-eq240.true) (w.size_elements-below.ensures, w.size_elements-below.auto.marks)
+  | size_items-else-told-eq240 w ↦ rw (w.marks-is, w.below-is, ne_eqb _ 0xf0 w.if-told-eq240.false) (w.size_children-below.ensures, w.size_children-below.auto.marks)
+]
 
 -- and one without
 leaf : (t : ℕ) (c : size_items-After-item_width t) → Comes c.args.words.now c.args.text.now c.args.levels (like c.args.told) c.args.start c.args.count c.args.marks.now (past c.loop-left.c c.letters-letters.result (c.item_width.result + c.letters-letters.result)) (c.loop-left.left - 1) c.loop-left.marks
