@@ -25,7 +25,7 @@ const OUTPUT_MOST: usize = (INPUT_MOST + 1) * LINE_MOST;
 fn list(bytes: &[u8], words: &mut [u64], text: &mut [u8], out: &mut [u8]) -> usize
     requires { Roomy words.old text.old out.old }
     ensures { (result ≡ length (listing level_most bytes.now))
-        × (out.new ≡ over (listing levelMost bytes.now) out.old) }
+        × (out.new ≡ over (listing level_most bytes.now) out.old) }
 {
     let size = bytes.len();
     if INPUT_MOST < size {

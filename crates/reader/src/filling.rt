@@ -23,7 +23,7 @@ const OWN: u64 = 256;
 
 // A row; where its text begins in the bytes, and how long it is; how many children come next, and behind which code. What stands
 // behind the row begins where its text ends.
-#[derive(Drop)]
+#[derive(Clone, Copy)]
 pub struct Row {
     pub kind: u64,
     pub number: u64,
@@ -34,7 +34,7 @@ pub struct Row {
 }
 
 // The runs that are due: the one on top has so many values behind that code, and so many runs are kept below it.
-#[derive(Drop)]
+#[derive(Clone, Copy)]
 pub struct Due {
     pub left: u64,
     pub code: u64,
@@ -42,7 +42,7 @@ pub struct Due {
 }
 
 // The code of a value, and where what stands behind it begins.
-#[derive(Drop)]
+#[derive(Clone, Copy)]
 pub struct Code(pub u8, pub usize);
 
 // A byte, two's complement, in four or eight bytes.
@@ -273,7 +273,7 @@ fn after_row(
 ) -> Due
     requires { (1 ≤ due.left) × (due.kept < level_most) × Kept lefts.old codes.old due.kept }
     ensures { Kept lefts.new codes.new result.kept
-        × (dueIs lefts.new codes.new result ≡ push children (headIs code) (push (due.left - 1) (headIs due.code) (keptIs lefts.old codes.old due.kept))) }
+        × (due_is lefts.new codes.new result ≡ push children (head_is code) (push (due.left - 1) (head_is due.code) (kept_is lefts.old codes.old due.kept))) }
 {
     let left = due.left - 1;
     let kept = due.kept;
@@ -316,7 +316,7 @@ fn put_text(text: &mut [u8], at: usize, bytes: &[u8], from: usize, count: usize)
 pub(crate) fn fill(bytes: &[u8], words: &mut [u64], text: &mut [u8], rows: usize)
     requires { Fillable bytes.now words.old text.old rows }
     ensures { (words.new ≡ over (rows_in (front level_most bytes.now)) words.old)
-        × (text.new ≡ over (textIn (front levelMost bytes.now)) text.old) }
+        × (text.new ≡ over (text_in (front level_most bytes.now)) text.old) }
 {
     let mut lefts = [0u64; limit::MOST];
     let mut codes = [0u64; limit::MOST];

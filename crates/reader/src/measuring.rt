@@ -21,21 +21,21 @@ use standard::refusal::Refusal;
 use standard::{format_code, kind, limit, refusal};
 
 // The length in bytes of a value, and the rows and the bytes of text that it reads to.
-#[derive(Drop)]
+#[derive(Clone, Copy)]
 pub struct Extent {
     pub length: usize,
     pub rows: usize,
     pub text: usize,
 }
 
-#[derive(Drop)]
+#[derive(Clone, Copy)]
 pub enum Measured {
     Fits(Extent),
     Refused(Refusal),
 }
 
 // What was measured of a value inside the bytes.
-#[derive(Drop)]
+#[derive(Clone, Copy)]
 enum Counted {
     Fits(Extent),
     Refused(Refusal),
@@ -45,7 +45,7 @@ enum Counted {
 
 // The same as a struct: where it `fits` length, rows and text, else number and place of the refusal and 0, or for bad text 0, place
 // and 1. An enum goes through memory where branches that build it meet; the fields of a struct stay in registers.
-#[derive(Drop)]
+#[derive(Clone, Copy)]
 struct Tally {
     fits: bool,
     first: usize,
@@ -54,28 +54,28 @@ struct Tally {
 }
 
 // Whether a value begins with its own code, or stands behind a code given before, as the elements of an array do.
-#[derive(Drop)]
+#[derive(Clone, Copy)]
 enum Head {
     Own,
     Under(u8),
 }
 
 // The code of a value and where its payload begins, or the number of the refusal.
-#[derive(Drop)]
+#[derive(Clone, Copy)]
 enum Start {
     Behind { code: u8, from: usize },
     Bad(usize),
 }
 
 // How many values stand in a body and where it ends, or the refusal.
-#[derive(Drop)]
+#[derive(Clone, Copy)]
 enum Body {
     Found { count: usize, end: usize },
     Bad(Refusal),
 }
 
 // Whether a code may stand for the elements of an array, or the number of the refusal.
-#[derive(Drop)]
+#[derive(Clone, Copy)]
 enum Element {
     Fit,
     Unfit(usize),

@@ -52,8 +52,8 @@ pub fn read_within(limit: usize, bytes: &[u8], words: &mut [u64], text: &mut [u8
 // The same within 16 levels.
 pub fn read(bytes: &[u8], words: &mut [u64], text: &mut [u8]) -> Measured
     ensures { (measured_is result ≡ (outcome.read level_default bytes.now words.old text.old).answer)
-        × (words.new ≡ (outcome.read levelDefault bytes.now words.old text.old).words)
-        × (text.new ≡ (outcome.read levelDefault bytes.now words.old text.old).letters) }
+        × (words.new ≡ (outcome.read level_default bytes.now words.old text.old).words)
+        × (text.new ≡ (outcome.read level_default bytes.now words.old text.old).letters) }
 {
     read_within(limit::DEFAULT, bytes, words, text)
 }

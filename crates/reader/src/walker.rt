@@ -13,7 +13,7 @@ use standard::{limit, refusal};
 
 // What a step finds: the end, the value that is this part of the bytes, or why there is none.
 // The place of a refusal counts from the place of the step.
-#[derive(Drop)]
+#[derive(Clone, Copy)]
 pub enum Step {
     Done,
     Value { start: usize, length: usize },
@@ -21,7 +21,7 @@ pub enum Step {
 }
 
 // What a step finds, and the place behind it.
-#[derive(Drop)]
+#[derive(Clone, Copy)]
 pub struct Stepped {
     pub answer: Step,
     pub at: usize,
@@ -87,7 +87,7 @@ fn value_of(bytes: &[u8], step: Step) -> &[u8]
 }
 
 // Goes through values that stand end to end: it keeps the caller's bytes, its place in them, and the level limit of each step.
-#[derive(Drop)]
+#[derive(Clone, Copy)]
 pub struct Walker<'a> {
     bytes: &'a [u8],
     at: usize,
@@ -96,7 +96,7 @@ pub struct Walker<'a> {
 
 // What the walker hands out: the answer, and the bytes of the value, none where there is no value.
 // The bytes stand beside the answer, for an enum cannot hold a slice.
-#[derive(Drop)]
+#[derive(Clone, Copy)]
 pub struct Next<'a> {
     pub answer: Step,
     pub value: &'a [u8],

@@ -8,7 +8,7 @@ ghost use Rattle.text.specs.InCode.{fault_is};
 ghost use Rattle.text.specs.Steps.{lead_is, stand, width_in, ascii_run};
 
 // The first byte at which, after correct sequences from the start, none begins.
-#[derive(Drop)]
+#[derive(Clone, Copy)]
 pub enum Fault {
     Flawless,
     At(usize),
@@ -16,7 +16,7 @@ pub enum Fault {
 
 // How many bytes the sequence has that a first byte begins.
 // The second is from lo to hi, where those are named; all others are tails, 0x80 to 0xbf.
-#[derive(Drop)]
+#[derive(Clone, Copy)]
 enum Lead {
     // It begins none.
     Stray,

@@ -339,3 +339,4 @@ unfit c o (got (vs, u, y)) f t h = let z : ◌≡◌ {A = ℕ} 0 1 = cc in absur
 unfit c o (refuse x (at p)) f at' h =
     let q : f ≡ record { number = x; place = p } = cc in
     rw q
+unfit c o (refuse x (byte _)) f t h = elim t [ ]

@@ -10,6 +10,7 @@ use prog.Routine.{Routine}
 use types.Logic.{Logic}
 use contract.Lifetimes.{Lfts}
 use contract.Monad.{Fun, fact}
+use denote.MutBor.{MutBor}
 use denote.Ref.{Bor}
 use Rattle.standard.specs.Outcomes as outcome
 use Rattle.standard.specs.Outcomes.{level_default}
@@ -56,12 +57,12 @@ module _ {M : Type 1} {𝓤 : Ura M} (𝓛 : Logic 𝓤) (mem : Memory → SProp
       → size.ensures-1 𝓛 κs mem run w x (record { entry = w; exit = w }) (record { entry = x; exit = x }) r ≡ fact 𝓤 (SizePromise level_default w.now x.now r)
   size_promise κs w x r = refl
 
-  pub write_within_promise : (κs : Lfts 3) (l : ℕ) (w x o p : Bor (List ℕ)) (r : Written)
+  pub write_within_promise : (κs : Lfts 3) (l : ℕ) (w x : Bor (List ℕ)) (o p : MutBor (List ℕ)) (r : Written)
       → write_within.ensures-1 𝓛 κs mem run l w x o (record { entry = l; exit = l }) (record { entry = w; exit = w }) (record { entry = x; exit = x }) (record { entry = o; exit = p }) r
       ≡ fact 𝓤 (WritePromise l w.now x.now o.now (record { answer = r; out = p.now }))
   write_within_promise κs l w x o p r = refl
 
-  pub write_promise : (κs : Lfts 3) (w x o p : Bor (List ℕ)) (r : Written)
+  pub write_promise : (κs : Lfts 3) (w x : Bor (List ℕ)) (o p : MutBor (List ℕ)) (r : Written)
       → write.ensures-1 𝓛 κs mem run w x o (record { entry = w; exit = w }) (record { entry = x; exit = x }) (record { entry = o; exit = p }) r
       ≡ fact 𝓤 (WritePromise level_default w.now x.now o.now (record { answer = r; out = p.now }))
   write_promise κs w x o p r = refl

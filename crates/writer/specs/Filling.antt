@@ -43,20 +43,20 @@ letters_at w c = letters (style_of (kind_at w c)) (number_at w c)
 abbrev pub mark_at : (words : List ℕ) → Cursor → ℕ
 mark_at w c = mark_width (style_of (kind_at w c)) (number_at w c)
 
-abbrev pub field_own : Mode → (words text out : List ℕ) → Cursor → List ℕ
-field_own m w x o c = head_in m (style_of (kind_at w c)) (kind_at w c % 256) (number_at w c) (unbe (take (mark_at w c) (drop c.mark o))) ++ take (letters_at w c) (drop c.text x)
+abbrev pub own_at : Mode → (words text out : List ℕ) → Cursor → List ℕ
+own_at m w x o c = head_in m (style_of (kind_at w c)) (kind_at w c % 256) (number_at w c) (unbe (take (mark_at w c) (drop c.mark o))) ++ take (letters_at w c) (drop c.text x)
 
 -- Before it: there is one, with room for its bytes, its text and its mark
 pub record Ready (m : Mode) (words text out : List ℕ) (c : Cursor) : Type 0 where
   pub row : 2 * c.row + 2 ≤ length words
-  pub room : c.at + length (field_own m words text out c) ≤ length out
+  pub room : c.at + length (own_at m words text out c) ≤ length out
   pub marked : c.mark + mark_at words c ≤ length out
   pub texts : c.text + letters_at words c ≤ length text
 
 -- After it: its bytes are written, and the cursor stands behind it
 pub record Stepped (m : Mode) (words text out : List ℕ) (c : Cursor) (after : List ℕ) (r : Cursor) : Type 0 where
-  pub bytes : after ≡ sets out c.at (field_own m words text out c)
-  pub place : r ≡ behind c (length (field_own m words text out c)) (letters_at words c) (mark_at words c)
+  pub bytes : after ≡ sets out c.at (own_at m words text out c)
+  pub place : r ≡ behind c (length (own_at m words text out c)) (letters_at words c) (mark_at words c)
 
 -- Several
 

@@ -19,7 +19,7 @@ use standard::kind::Style;
 use standard::{format_code, kind};
 
 // The next row and its text, where it is written, and the next mark.
-#[derive(Drop)]
+#[derive(Clone, Copy)]
 pub struct Cursor {
     pub row: usize,
     pub text: usize,
@@ -150,7 +150,7 @@ fn put_marked(out: &mut [u8], at: usize, short: u8, code: u8, count: u64, mark: 
 // The head of a list or a map that is not empty; nothing for other rows.
 fn put_compound(out: &mut [u8], at: usize, kind: u64, count: u64, mark: usize) -> usize
     requires { (mark + mark_width (style_of kind) count ≤ length out.old)
-        × (at + length (compoundHead (styleOf kind) (kind % 256) count (unbe (take 3 (drop mark out.old)))) ≤ length out.old) }
+        × (at + length (compound_head (style_of kind) (kind % 256) count (unbe (take 3 (drop mark out.old)))) ≤ length out.old) }
     ensures { Put (compound_head (style_of kind) (kind % 256) count (unbe (take 3 (drop mark out.old)))) out.old at out.new result }
 {
     if count == 0 {
@@ -226,7 +226,7 @@ fn put_item(words: &[u64], text: &[u8], out: &mut [u8], c: Cursor) -> Cursor
 // `text` is there for the promise alone.
 fn put_nested(words: &[u64], text: &[u8], out: &mut [u8], body: usize, c: Cursor) -> Cursor
     requires { Ready elements words.now text.now out.old c × (is_list_or_map (style_of (kind_at words.now c)) ≡ true)
-        × (body ≡ unbe (take (markAt words.now c) (drop c.mark out.old))) × (body < 2 ^ 24) }
+        × (body ≡ unbe (take (mark_at words.now c) (drop c.mark out.old))) × (body < 2 ^ 24) }
     ensures { Stepped elements words.now text.now out.old c out.new result }
 {
     let count = words[2 * c.row + 1];
@@ -263,7 +263,7 @@ fn put_array(
     c: Cursor,
 ) -> Cursor
     requires { Ready (mode_is nested) words.now text.now out.old c × (kind_at words.now c ≡ 0xf0)
-        × (elements ≡ unbe (take (markAt words.now c) (drop c.mark out.old))) × (elements < 2 ^ 24) }
+        × (elements ≡ unbe (take (mark_at words.now c) (drop c.mark out.old))) × (elements < 2 ^ 24) }
     ensures { Stepped (mode_is nested) words.now text.now out.old c out.new result }
 {
     let number = words[2 * c.row + 1];

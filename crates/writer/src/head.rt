@@ -19,7 +19,7 @@ pub(crate) const SHORT_END: u64 = 255;
 pub(crate) const MARK_WIDTH: usize = 3;
 
 // A format code, and up to two numbers behind it with their widths in bytes.
-#[derive(Drop)]
+#[derive(Clone, Copy)]
 pub struct Head {
     pub code: u8,
     pub width: usize,

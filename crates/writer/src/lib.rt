@@ -35,7 +35,7 @@ use standard::{kind, limit, refusal};
 const NEAR: usize = 600;
 
 // The length in bytes of what is written, or why nothing is.
-#[derive(Drop)]
+#[derive(Clone, Copy)]
 pub enum Written {
     Length(usize),
     Refused(Refusal),
@@ -122,7 +122,7 @@ fn size_for(limit: usize, words: &[u64], text: &[u8], out: &mut [u8]) -> Sized
 fn put_far(words: &[u64], n: usize, m: usize, out: &mut [u8])
     requires { (m ≤ n) × (near_most < m → Tabled words.now out.old (n - m)) }
     ensures { (m ≤ near_most → out.new ≡ out.old)
-        × (nearMost < m → (v : Tree) → Markable words.now out.old (n - m) v → out.new ≡ sets out.old (n - m) (marks v)) }
+        × (near_most < m → (v : Tree) → Markable words.now out.old (n - m) v → out.new ≡ sets out.old (n - m) (marks v)) }
 {
     if NEAR < m {
         marking::mark_table(words, out, n - m);
@@ -155,7 +155,7 @@ pub fn write_within(limit: usize, words: &[u64], text: &[u8], out: &mut [u8]) ->
 // Writes a table to the front of the output within 16 levels, or refuses and leaves the output as it is.
 pub fn write(words: &[u64], text: &[u8], out: &mut [u8]) -> Written
     ensures { (written_is result ≡ (outcome.write level_default words.now text.now out.old).answer)
-        × (out.new ≡ (outcome.write levelDefault words.now text.now out.old).out) }
+        × (out.new ≡ (outcome.write level_default words.now text.now out.old).out) }
 {
     write_within(limit::DEFAULT, words, text, out)
 }

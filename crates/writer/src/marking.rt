@@ -24,7 +24,7 @@ const STACK: usize = 96;
 
 // The next row, the bytes before it, the next mark, how many rows are due before the innermost open compound ends, whether they are
 // elements of an array, and how many numbers are on the stack.
-#[derive(Drop)]
+#[derive(Clone, Copy)]
 pub struct Point {
     pub row: usize,
     pub size: usize,
@@ -162,7 +162,7 @@ fn open(stack: &mut [u32; STACK], c: Point, kind: u64, count: usize) -> Point
 fn close(stack: &[u32; STACK], out: &mut [u8], c: Point) -> Point
     requires { Complete stack.now out.old c }
     ensures { (result ≡ closed stack.now c)
-        × (out.new ≡ sets out.old (placeOn stack.now c.top) (be 3 (c.size - startOn stack.now c.top))) }
+        × (out.new ≡ sets out.old (place_on stack.now c.top) (be 3 (c.size - start_on stack.now c.top))) }
 {
     let top = c.top - 3;
     let children = c.size - stack[top] as usize;
@@ -183,7 +183,7 @@ fn close(stack: &[u32; STACK], out: &mut [u8], c: Point) -> Point
 fn take_row(words: &[u64], stack: &mut [u32; STACK], c: Point) -> Point
     requires { Ready words.now c }
     ensures { (result ≡ taken c (kind_on words.now c) (number_on words.now c))
-        × (stack.new ≡ stacked stack.old c (kindOn words.now c) (numberOn words.now c)) }
+        × (stack.new ≡ stacked stack.old c (kind_on words.now c) (number_on words.now c)) }
 {
     let k = 2 * c.row;
     let kind = words[k];

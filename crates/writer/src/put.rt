@@ -261,7 +261,7 @@ pub(crate) fn put_letters(
     from: usize,
 ) -> usize
     requires { (from + letters (style_of kind) number ≤ length text.now)
-        × (at + length (lettersRow (styleOf kind) (kind % 256) number (drop from text.now)) ≤ length out.old) }
+        × (at + length (letters_row (style_of kind) (kind % 256) number (drop from text.now)) ≤ length out.old) }
     ensures { Put (letters_row (style_of kind) (kind % 256) number (drop from text.now)) out.old at out.new result }
 {
     let code = (kind % 256) as u8;

@@ -11,14 +11,14 @@ use standard::kind::Style;
 use standard::{kind, refusal};
 
 // Where a row stands: in no array, or in one that tells that kind of its elements.
-#[derive(Drop)]
+#[derive(Clone, Copy)]
 pub enum IsArrayElement {
     False,
     OfKind(u64),
 }
 
 // A good row; the number of its refusal; or the faulty byte of its text.
-#[derive(Drop)]
+#[derive(Clone, Copy)]
 pub enum Checked {
     Good(Style, u64, u64),
     Bad(usize),

@@ -20,7 +20,7 @@ use standard::refusal::Refusal;
 use standard::{kind, refusal};
 
 // What is behind values: the next row and its text, the bytes that they take, and the next mark.
-#[derive(Drop)]
+#[derive(Clone, Copy)]
 pub struct Extent {
     pub row: usize,
     pub text: usize,
@@ -68,14 +68,14 @@ impl Extent {
     }
 }
 
-#[derive(Drop)]
+#[derive(Clone, Copy)]
 pub enum Sized {
     Fits(Extent),
     Refused(Refusal),
 }
 
 // What a row is, as far as sizing goes on without further checks.
-#[derive(Drop)]
+#[derive(Clone, Copy)]
 pub enum Taken {
     // A number that takes so many bytes.
     Number(usize),

@@ -1,0 +1,6 @@
+-- `measure` is measuring at the limit where none is named.
+use borrow.Author.Rules.{rules}
+use Rattle.reader.proofs.measuring.measure.Goals as goal
+
+pub returns : goal.returns
+returns c = c.measure_within.ensures

@@ -1,0 +1,17 @@
+-- `text::ascii_block` meets its contract. The invariant: the highest of the first i bytes is ASCII just where i bytes of ASCII stand there.
+use Prim.Native.Nat.{◌-◌, ◌≤◌}
+use mathlib.Core.Path.{◌≡◌, sym, ◌∙◌}
+use mathlib.Core.Logic.{⊎_elim}
+use native.Mathlib.Omega.{arith}
+use borrow.Author.Rules.{rules}
+use lib.Dec.{leb, leb-zero, leb-suc-suc}
+use lib.ListN.{drop}
+use Rattle.text.specs.Steps.{ascii_run}
+use Rattle.text.proofs.Ascii.{run_short, top_more}
+use Rattle.text.proofs.ascii_block.Given as goal
+
+abbrev pub invariant-loop-i : goal.invariant-loop-i
+invariant-loop-i l = (l.i ≤ 16) × (leb l.top 0x7f ≡ leb l.i (ascii_run (drop l.at l.text)))
+
+abbrev pub decreases-loop-i : goal.decreases-loop-i
+decreases-loop-i l = 16 - l.i

@@ -1,0 +1,15 @@
+-- `text::past_ascii` meets its contract. The invariant: what is left of the ASCII bytes ends where those from the start do.
+use Prim.Native.Nat.{◌+◌, ◌-◌}
+use mathlib.Core.Path.{◌≡◌, ◌∙◌}
+use native.Mathlib.Omega.{arith}
+use borrow.Author.Rules.{rules}
+use lib.ListN.{length, drop}
+use Rattle.text.specs.Steps.{ascii_run}
+use Rattle.text.proofs.Ascii.{run_within, run_end, run_some, run_none}
+use Rattle.text.proofs.past_ascii.Given as goal
+
+abbrev pub invariant-loop-at : goal.invariant-loop-at
+invariant-loop-at l = l.at + ascii_run (drop l.at l.text) ≡ l.start + ascii_run (drop l.start l.text)
+
+abbrev pub decreases-loop-at : goal.decreases-loop-at
+decreases-loop-at l = length l.text - l.at

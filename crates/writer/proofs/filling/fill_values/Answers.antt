@@ -1,0 +1,37 @@
+-- `fill_values` writes value after value. Invariant: what is left at the cursor comes to what was due (`Ran`).
+use Prim.Native.Nat.{ℕ, ◌-◌, ◌*◌, ◌<◌}
+use mathlib.Core.Path.{◌≡◌, refl, ap, ◌∙◌}
+use native.Mathlib.Omega.{arith}
+use lib.ListN.{length}
+use Rattle.writer.proofs.Rows.{no_array, Ran, ran_none, ran_row, ran_ready, ran_on, ran_end}
+use Rattle.writer.proofs.filling.fill_values.Goals as goal
+
+pub loop-c-init : goal.loop-c-init
+loop-c-init c = (refl, ran_none)
+
+pub overflow_mul-c : goal.overflow_mul-c
+overflow_mul-c c = omega (arith, ran_row c.loop-c.invariant.1 c.requires c.loop-c-test.true, c.well_formed.0.0)
+
+pub offset_bounds-words-c : goal.offset_bounds-words-c
+offset_bounds-words-c c = omega (arith, ran_row c.loop-c.invariant.1 c.requires c.loop-c-test.true, c.well_formed.0.0)
+
+pub bounds-words-c : goal.bounds-words-c
+bounds-words-c c = omega (arith, ran_row c.loop-c.invariant.1 c.requires c.loop-c-test.true)
+
+pub shape_of-out-then-words-c-eq240 : goal.shape_of-out-then-words-c-eq240
+shape_of-out-then-words-c-eq240 c = c.loop-c.invariant.0
+
+pub returns-then-words-c-eq240 : goal.returns-then-words-c-eq240
+returns-then-words-c-eq240 c = ran_end c.loop-c.invariant.1 (λ h. c.if-words-c-eq240.true)
+
+pub put_value-c-requires : goal.put_value-c-requires
+put_value-c-requires c = let i = no_array _ c.if-words-c-eq240.false in (ran_ready c.loop-c.invariant.1 c.requires c.loop-c-test.true i, i)
+
+pub loop-c-smaller : goal.loop-c-smaller
+loop-c-smaller c = omega (arith, ran_row c.loop-c.invariant.1 c.requires c.loop-c-test.true, ap (λ z. z.row) c.put_value-c.ensures.place)
+
+pub loop-c-preserved : goal.loop-c-preserved
+loop-c-preserved c = (c.put_value-c.auto.out ∙ c.loop-c.invariant.0, ran_on c.loop-c.invariant.1 c.loop-c-test.true (no_array _ c.if-words-c-eq240.false) c.put_value-c.ensures)
+
+pub returns : goal.returns
+returns c = ran_end c.loop-c.invariant.1 (λ h. absurd (omega (arith, c.loop-c-test.false)))

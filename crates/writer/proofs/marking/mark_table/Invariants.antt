@@ -1,0 +1,16 @@
+-- `mark_table` takes row after row, and closes what is complete. Invariant: what is left makes the buffer that was to be made.
+use borrow.Author.Rules.{rules}
+use mathlib.Core.Path.{refl, ap, ◌∙◌}
+use native.Mathlib.Omega.{arith}
+use lib.ListN.{length}
+use lib.Seq.{length-sets}
+use Rattle.standard.specs.Tree.{Tree}
+use Rattle.writer.specs.Marking.{Markable}
+use Rattle.writer.proofs.Onward.{Due, to_go, few_words, goal, begun, left_small, turn, ended, finished}
+use Rattle.writer.proofs.marking.mark_table.Given as goal
+
+abbrev pub invariant-loop-c : goal.invariant-loop-c
+invariant-loop-c l = (v : Tree) → Markable l.words l.initial.out l.mark v → Due l.words (goal l.initial.out l.mark v) l.stack l.out l.c
+
+abbrev pub decreases-loop-c : goal.decreases-loop-c
+decreases-loop-c l = to_go l.words l.c

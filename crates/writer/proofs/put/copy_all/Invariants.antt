@@ -1,0 +1,15 @@
+-- `copy_all` copies from the first byte on. Invariant: what is left of the text, at its place, comes to what was due at the start.
+use Prim.Native.Nat.{◌+◌, ◌-◌, ◌≤◌}
+use mathlib.Core.Path.{◌≡◌, refl, ◌∙◌}
+use native.Mathlib.Omega.{arith}
+use borrow.Author.Rules.{rules}
+use lib.ListN.{length, take, drop, length-set}
+use lib.Seq.{sets}
+use Rattle.laws.specs.Stores.{left, text_begins, text_goes_on, text_ends}
+use Rattle.writer.proofs.put.copy_all.Given as goal
+
+abbrev pub invariant-loop-k : goal.invariant-loop-k
+invariant-loop-k l = (l.k ≤ l.count) × (length l.out ≡ length l.initial.out) × (sets l.out (l.at + l.k) (left l.text l.from l.count l.k) ≡ sets l.initial.out l.at (take l.count (drop l.from l.text)))
+
+abbrev pub decreases-loop-k : goal.decreases-loop-k
+decreases-loop-k l = l.count - l.k

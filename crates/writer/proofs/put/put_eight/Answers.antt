@@ -1,0 +1,30 @@
+-- `put_eight` stores the bytes of a number in straight line, the most significant first: `spread` at its width.
+use borrow.Author.Rules.{rules}
+use native.Mathlib.Omega.{arith}
+use lib.ListN.{length-set}
+use Rattle.writer.proofs.Stores.{spread}
+use Rattle.writer.proofs.put.put_eight.Goals as goal
+
+pub bounds-out-at-2 : goal.bounds-out-at-2
+bounds-out-at-2 c = simp length-set (omega arith)
+
+pub bounds-out-at-3 : goal.bounds-out-at-3
+bounds-out-at-3 c = simp length-set (omega arith)
+
+pub bounds-out-at-4 : goal.bounds-out-at-4
+bounds-out-at-4 c = simp length-set (omega arith)
+
+pub bounds-out-at-5 : goal.bounds-out-at-5
+bounds-out-at-5 c = simp length-set (omega arith)
+
+pub bounds-out-at-6 : goal.bounds-out-at-6
+bounds-out-at-6 c = simp length-set (omega arith)
+
+pub bounds-out-at-7 : goal.bounds-out-at-7
+bounds-out-at-7 c = simp length-set (omega arith)
+
+pub bounds-out-at-8 : goal.bounds-out-at-8
+bounds-out-at-8 c = simp length-set (omega arith)
+
+pub returns : goal.returns
+returns c = spread c.args.out.now c.args.at 7 c.args.number

@@ -1,0 +1,15 @@
+-- `put_three` stores the bytes of a number in straight line, the most significant first: `spread` at its width.
+use borrow.Author.Rules.{rules}
+use native.Mathlib.Omega.{arith}
+use lib.ListN.{length-set}
+use Rattle.writer.proofs.Stores.{spread}
+use Rattle.writer.proofs.put.put_three.Goals as goal
+
+pub bounds-out-at-2 : goal.bounds-out-at-2
+bounds-out-at-2 c = simp length-set (omega arith)
+
+pub bounds-out-at-3 : goal.bounds-out-at-3
+bounds-out-at-3 c = simp length-set (omega arith)
+
+pub returns : goal.returns
+returns c = spread c.args.out.now c.args.at 2 c.args.number

@@ -1,0 +1,6 @@
+-- `size` is sizing at the limit where none is named.
+use borrow.Author.Rules.{rules}
+use Rattle.writer.proofs.size.Goals as goal
+
+pub returns : goal.returns
+returns c = c.size_within.ensures

@@ -1,0 +1,6 @@
+-- `write` is writing at the limit where none is named.
+use borrow.Author.Rules.{rules}
+use Rattle.writer.proofs.write.Goals as goal
+
+pub returns : goal.returns
+returns c = c.write_within.ensures
