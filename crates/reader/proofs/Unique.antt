@@ -11,6 +11,7 @@ use types.Logic.{Logic}
 use contract.Lifetimes.{Lfts}
 use contract.Monad.{Fun, fact}
 use denote.Ref.{Bor}
+use denote.MutBor.{MutBor}
 use Rattle.standard.specs.Outcomes as outcome
 use Rattle.standard.specs.Outcomes.{level_default}
 use Rattle.standard.specs.Facts.{same_refusal}
@@ -63,12 +64,12 @@ module _ {M : Type 1} {𝓤 : Ura M} (𝓛 : Logic 𝓤) (mem : Memory → SProp
       → measure.ensures-1 𝓛 κs mem run b (record { entry = b; exit = b }) r ≡ fact 𝓤 (MeasurePromise level_default b.now r)
   measure_promise κs b r = refl
 
-  pub read_within_promise : (κs : Lfts 3) (l : ℕ) (b w x v y : Bor (List ℕ)) (r : Measured)
+  pub read_within_promise : (κs : Lfts 3) (l : ℕ) (b : Bor (List ℕ)) (w x v y : MutBor (List ℕ)) (r : Measured)
       → read_within.ensures-1 𝓛 κs mem run l b w x (record { entry = l; exit = l }) (record { entry = b; exit = b }) (record { entry = w; exit = v }) (record { entry = x; exit = y }) r
       ≡ fact 𝓤 (ReadPromise l b.now w.now x.now (record { answer = r; words = v.now; text = y.now }))
   read_within_promise κs l b w x v y r = refl
 
-  pub read_promise : (κs : Lfts 3) (b w x v y : Bor (List ℕ)) (r : Measured)
+  pub read_promise : (κs : Lfts 3) (b : Bor (List ℕ)) (w x v y : MutBor (List ℕ)) (r : Measured)
       → read.ensures-1 𝓛 κs mem run b w x (record { entry = b; exit = b }) (record { entry = w; exit = v }) (record { entry = x; exit = y }) r
       ≡ fact 𝓤 (ReadPromise level_default b.now w.now x.now (record { answer = r; words = v.now; text = y.now }))
   read_promise κs b w x v y r = refl

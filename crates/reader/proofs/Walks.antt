@@ -16,6 +16,7 @@ use types.Logic.{Logic}
 use contract.Lifetimes.{Lfts}
 use contract.Monad.{Fun, fact}
 use denote.Ref.{Bor}
+use denote.MutBor.{MutBor}
 use denote.Slice.{slice_val}
 use Rattle.standard.specs.Tree.{Tree}
 use Rattle.standard.specs.Answer.{Answer, got, refuse}
@@ -84,7 +85,7 @@ pub one_new : (l : ℕ) (p : Bor (List ℕ)) (w x : Walker) → w ≡ fresh l p 
 one_new l p w x a b = a ∙ sym b
 
 -- the contract of `next` is `NextOf`, and nothing else
-pub next_promise : {M : Type 1} {𝓤 : Ura M} (𝓛 : Logic 𝓤) (κs : Lfts 2) (mem : Memory → SProp 𝓤) (run : Routine → Fun 𝓤) (w x : Bor Walker) (r : Next)
+pub next_promise : {M : Type 1} {𝓤 : Ura M} (𝓛 : Logic 𝓤) (κs : Lfts 2) (mem : Memory → SProp 𝓤) (run : Routine → Fun 𝓤) (w x : MutBor Walker) (r : Next)
     → next.ensures-1 𝓛 κs mem run w (record { entry = w; exit = x }) r ≡ fact 𝓤 (NextOf w.now x.now r)
 next_promise 𝓛 κs mem run w x r = refl
 

@@ -1,6 +1,5 @@
 -- `size_table` makes the check of the limit, and the checks behind the last row, in the order of the definition.
 use borrow.Author.Rules.{rules}
-use borrow.Author.Tests.{not_true, not_false}
 use mathlib.Core.Path.{sym, ◌∙◌}
 use native.Mathlib.Omega.{arith}
 use Rattle.writer.proofs.Turns.{at_start}

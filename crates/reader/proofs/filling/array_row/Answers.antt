@@ -15,7 +15,6 @@ fits c = array_fits c.args.bytes.now c.args.kind c.args.at c.requires.1 c.args.w
 -- and so is the code of its elements
 item : (c : Else-size-width) → let a = c.args in a.at + a.width + a.width + 1 ≤ length a.bytes.now
 item c =
-    
     items_fit c.args.bytes.now c.args.kind c.args.at c.requires.1 c.args.width c.narrow_at-count.result c.requires.2 c.narrow_at-count.ensures.0 (λ e. c.if-size-width.false (c.narrow_at-size.ensures.0 ∙ e))
 
 pub narrow_at-size-requires : goal.narrow_at-size-requires

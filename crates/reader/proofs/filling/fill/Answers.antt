@@ -56,7 +56,7 @@ loop-row-smaller c = omega (arith, c.loop-row-test.true)
 
 pub loop-row-preserved : goal.loop-row-preserved
 loop-row-preserved c = let o = c.loop-row.invariant in
-    (simp length-set o.0, c.put_text.auto.0 ∙ o.1, again o.2 c.loop-row-test.true c.next_run-due.ensures c.row_at-r.ensures c.put_text.ensures c.after_row-due.ensures.0 c.after_row-due.ensures.1)
+    (simp length-set o.0, c.put_text.auto.text ∙ o.1, again o.2 c.loop-row-test.true c.next_run-due.ensures c.row_at-r.ensures c.put_text.ensures c.after_row-due.ensures.0 c.after_row-due.ensures.1)
 
 pub shape_of-words : goal.shape_of-words
 shape_of-words c = c.loop-row.invariant.0

@@ -21,4 +21,4 @@ returns-in-209 c = rw c.in-209.is
 
 pub returns-in_default : goal.returns-in_default
 unfolding compound_width
-returns-in_default c = let r = c.in_default.rest in simp (ne_eqb _ _ r.0.0.0.1, ne_eqb _ _ r.0.0.1, ne_eqb _ _ r.0.1, ne_eqb _ _ r.1)
+returns-in_default c = let r = c.in_default.in_default-own.rest in simp (ne_eqb _ _ r.0.0.0.1, ne_eqb _ _ r.0.0.1, ne_eqb _ _ r.0.1, ne_eqb _ _ r.1)

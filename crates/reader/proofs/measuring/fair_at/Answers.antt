@@ -19,4 +19,4 @@ returns-in-86 c = c.is_fair.ensures ∙ ap (fair c.args.kind) c.narrow_at.ensure
 
 pub returns-in_default : goal.returns-in_default
 unfolding sure fair
-returns-in_default c = simp (ne_eqb _ _ (λ e. c.in_default.rest.1 (inl e)), ne_eqb _ _ (λ e. c.in_default.rest.1 (inr e)))
+returns-in_default c = simp (ne_eqb _ _ (λ e. c.in_default.in_default-own.rest.1 (inl e)), ne_eqb _ _ (λ e. c.in_default.in_default-own.rest.1 (inr e)))

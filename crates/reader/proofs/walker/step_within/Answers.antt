@@ -2,7 +2,6 @@
 use mathlib.Core.Path.{sym, ap, ◌∙◌}
 use native.Mathlib.Omega.{arith}
 use borrow.Author.Rules.{rules}
-use borrow.Author.Tests.{not_true, not_false}
 use lib.Dec.{T}
 use Rattle.standard.specs.Outcomes.{in_force, stepped}
 use Rattle.standard.specs.Facts.{true_T, false_T}
@@ -13,11 +12,11 @@ use Rattle.reader.proofs.walker.step_within.Goals as goal
 
 pub returns-then-not-is_in_force : goal.returns-then-not-is_in_force
 unfolding stepped
-returns-then-not-is_in_force c = ap stepped_is c.stay.ensures ∙ sym (step_outside _ _ _ (false_T _ (sym c.is_in_force.ensures ∙ not_true _ c.if-not-is_in_force.true)))
+returns-then-not-is_in_force c = ap stepped_is c.stay.ensures ∙ sym (step_outside _ _ _ (false_T _ (sym c.is_in_force.ensures ∙ c.if-not-is_in_force.true)))
 
 pub returns-then-bytes-at : goal.returns-then-bytes-at
 unfolding stepped
-returns-then-bytes-at c = ap stepped_is c.stay-then-bytes-at.ensures ∙ sym (step_end _ _ _ (true_T _ (sym c.is_in_force.ensures ∙ not_false _ c.if-not-is_in_force.false)) c.if-bytes-at.true)
+returns-then-bytes-at c = ap stepped_is c.stay-then-bytes-at.ensures ∙ sym (step_end _ _ _ (true_T _ (sym c.is_in_force.ensures ∙ c.if-not-is_in_force.false)) c.if-bytes-at.true)
 
 pub overflow_add-end : goal.overflow_add-end
 unfolding stepped

@@ -1,7 +1,0 @@
--- `step_at` is a step at the limit where none is named.
-use borrow.Author.Rules.{rules}
-use Rattle.reader.proofs.walker.step_at.Statement.{statement}
-use Rattle.reader.proofs.walker.step_at.Tie as tie
-
-pub step-at-spec : {M : Type 1} → statement M
-step-at-spec = tie.close (tie.spec (λ c κs. search rules) (λ c. c.step_within.ensures))
