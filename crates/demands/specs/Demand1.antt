@@ -26,10 +26,14 @@ use Rattle.laws.specs.Ranges.{Within, of_size, of_write, of_measure, of_read, St
 use Rattle.writer.specs.InCode.{written_is}
 use Rattle.writer.specs.declared.Written.{Written}
 use Rattle.writer.specs.declared.Written.TheVariants as written
-use Rattle.writer.proofs.size_within as size-within
+use Rattle.writer.proofs.size_within as size_within
+use Rattle.writer.specs.contracts.size_within as size_within_contract
 use Rattle.writer.proofs.size as size
-use Rattle.writer.proofs.write_within as write-within
+use Rattle.writer.specs.contracts.size as size_contract
+use Rattle.writer.proofs.write_within as write_within
+use Rattle.writer.specs.contracts.write_within as write_within_contract
 use Rattle.writer.proofs.write as write
+use Rattle.writer.specs.contracts.write as write_contract
 use Rattle.writer.proofs.Unique as writer
 use Rattle.writer.proofs.Unique.{SizePromise, WritePromise}
 use Rattle.reader.specs.InCode.{measured_is, step_is, stepped_is}
@@ -41,15 +45,24 @@ use Rattle.reader.specs.declared.walker.Step.TheVariants as step
 use Rattle.reader.specs.declared.walker.Stepped.{Stepped}
 use Rattle.reader.specs.declared.walker.Walker.{Walker}
 use Rattle.reader.specs.declared.walker.Next.{Next}
-use Rattle.reader.proofs.measure_within as measure-within
+use Rattle.reader.proofs.measure_within as measure_within
+use Rattle.reader.specs.contracts.measure_within as measure_within_contract
 use Rattle.reader.proofs.measure as measure
-use Rattle.reader.proofs.read_within as read-within
+use Rattle.reader.specs.contracts.measure as measure_contract
+use Rattle.reader.proofs.read_within as read_within
+use Rattle.reader.specs.contracts.read_within as read_within_contract
 use Rattle.reader.proofs.read as read
+use Rattle.reader.specs.contracts.read as read_contract
 use Rattle.reader.proofs.walker.step_within as step_within
-use Rattle.reader.proofs.walker.step_at as step-at
+use Rattle.reader.specs.contracts.walker.step_within as step_within_contract
+use Rattle.reader.proofs.walker.step_at as step_at
+use Rattle.reader.specs.contracts.walker.step_at as step_at_contract
 use Rattle.reader.proofs.walker.Walker.within as within
+use Rattle.reader.specs.contracts.walker.Walker.within as within_contract
 use Rattle.reader.proofs.walker.Walker.new as new
+use Rattle.reader.specs.contracts.walker.Walker.new as new_contract
 use Rattle.reader.proofs.walker.Walker.next as next
+use Rattle.reader.specs.contracts.walker.Walker.next as next_contract
 use Rattle.reader.proofs.Unique as reader
 use Rattle.reader.proofs.Unique.{MeasurePromise, ReadPromise}
 use Rattle.reader.proofs.Walks.{StepPromise}
@@ -58,26 +71,26 @@ use Rattle.reader.proofs.Walks.{StepPromise}
 
 -- the code meets its contract: every call that the contract allows returns, with what the contract says of it
 
-pub size_within_ends : {M : Type 1} → size-within.Statement.statement M
-size_within_ends = size-within.Met.met
+pub size_within_ends : {M : Type 1} → size_within.Statement.statement M
+size_within_ends = size_within.Met.met
 
 pub size_ends : {M : Type 1} → size.Statement.statement M
 size_ends = size.Met.met
 
-pub write_within_ends : {M : Type 1} → write-within.Statement.statement M
-write_within_ends = write-within.Met.met
+pub write_within_ends : {M : Type 1} → write_within.Statement.statement M
+write_within_ends = write_within.Met.met
 
 pub write_ends : {M : Type 1} → write.Statement.statement M
 write_ends = write.Met.met
 
-pub measure_within_ends : {M : Type 1} → measure-within.Statement.statement M
-measure_within_ends = measure-within.Met.met
+pub measure_within_ends : {M : Type 1} → measure_within.Statement.statement M
+measure_within_ends = measure_within.Met.met
 
 pub measure_ends : {M : Type 1} → measure.Statement.statement M
 measure_ends = measure.Met.met
 
-pub read_within_ends : {M : Type 1} → read-within.Statement.statement M
-read_within_ends = read-within.Met.met
+pub read_within_ends : {M : Type 1} → read_within.Statement.statement M
+read_within_ends = read_within.Met.met
 
 pub read_ends : {M : Type 1} → read.Statement.statement M
 read_ends = read.Met.met
@@ -85,8 +98,8 @@ read_ends = read.Met.met
 pub step_within_ends : {M : Type 1} → step_within.Statement.statement M
 step_within_ends = step_within.Met.met
 
-pub step_ends : {M : Type 1} → step-at.Statement.statement M
-step_ends = step-at.Met.met
+pub step_ends : {M : Type 1} → step_at.Statement.statement M
+step_ends = step_at.Met.met
 
 pub within_ends : {M : Type 1} → within.Statement.statement M
 within_ends = within.Met.met
@@ -100,43 +113,43 @@ next_ends = next.Met.met
 -- and the contract allows every call: it asks for nothing
 
 module _ {M : Type 1} {𝓤 : Ura M} (𝓛 : Logic 𝓤) (mem : Memory → SProp 𝓤) (run : Routine → Fun 𝓤) where
-  pub size_within_takes : (κs : Lfts 2) (a : Args size-within.signature κs) → (size-within.spec 𝓛 mem run κs a).requires tt ≡ (connectives 𝓤).⊤ₛ
+  pub size_within_takes : (κs : Lfts 2) (a : Args size_within_contract.signature κs) → (size_within_contract.spec 𝓛 mem run κs a).requires tt ≡ (connectives 𝓤).⊤ₛ
   size_within_takes κs a = refl
 
-  pub size_takes : (κs : Lfts 2) (a : Args size.signature κs) → (size.spec 𝓛 mem run κs a).requires tt ≡ (connectives 𝓤).⊤ₛ
+  pub size_takes : (κs : Lfts 2) (a : Args size_contract.signature κs) → (size_contract.spec 𝓛 mem run κs a).requires tt ≡ (connectives 𝓤).⊤ₛ
   size_takes κs a = refl
 
-  pub write_within_takes : (κs : Lfts 3) (a : Args write-within.signature κs) → (write-within.spec 𝓛 mem run κs a).requires tt ≡ (connectives 𝓤).⊤ₛ
+  pub write_within_takes : (κs : Lfts 3) (a : Args write_within_contract.signature κs) → (write_within_contract.spec 𝓛 mem run κs a).requires tt ≡ (connectives 𝓤).⊤ₛ
   write_within_takes κs a = refl
 
-  pub write_takes : (κs : Lfts 3) (a : Args write.signature κs) → (write.spec 𝓛 mem run κs a).requires tt ≡ (connectives 𝓤).⊤ₛ
+  pub write_takes : (κs : Lfts 3) (a : Args write_contract.signature κs) → (write_contract.spec 𝓛 mem run κs a).requires tt ≡ (connectives 𝓤).⊤ₛ
   write_takes κs a = refl
 
-  pub measure_within_takes : (κs : Lfts 1) (a : Args measure-within.signature κs) → (measure-within.spec 𝓛 mem run κs a).requires tt ≡ (connectives 𝓤).⊤ₛ
+  pub measure_within_takes : (κs : Lfts 1) (a : Args measure_within_contract.signature κs) → (measure_within_contract.spec 𝓛 mem run κs a).requires tt ≡ (connectives 𝓤).⊤ₛ
   measure_within_takes κs a = refl
 
-  pub measure_takes : (κs : Lfts 1) (a : Args measure.signature κs) → (measure.spec 𝓛 mem run κs a).requires tt ≡ (connectives 𝓤).⊤ₛ
+  pub measure_takes : (κs : Lfts 1) (a : Args measure_contract.signature κs) → (measure_contract.spec 𝓛 mem run κs a).requires tt ≡ (connectives 𝓤).⊤ₛ
   measure_takes κs a = refl
 
-  pub read_within_takes : (κs : Lfts 3) (a : Args read-within.signature κs) → (read-within.spec 𝓛 mem run κs a).requires tt ≡ (connectives 𝓤).⊤ₛ
+  pub read_within_takes : (κs : Lfts 3) (a : Args read_within_contract.signature κs) → (read_within_contract.spec 𝓛 mem run κs a).requires tt ≡ (connectives 𝓤).⊤ₛ
   read_within_takes κs a = refl
 
-  pub read_takes : (κs : Lfts 3) (a : Args read.signature κs) → (read.spec 𝓛 mem run κs a).requires tt ≡ (connectives 𝓤).⊤ₛ
+  pub read_takes : (κs : Lfts 3) (a : Args read_contract.signature κs) → (read_contract.spec 𝓛 mem run κs a).requires tt ≡ (connectives 𝓤).⊤ₛ
   read_takes κs a = refl
 
-  pub step_within_takes : (κs : Lfts 1) (a : Args step_within.signature κs) → (step_within.spec 𝓛 mem run κs a).requires tt ≡ (connectives 𝓤).⊤ₛ
+  pub step_within_takes : (κs : Lfts 1) (a : Args step_within_contract.signature κs) → (step_within_contract.spec 𝓛 mem run κs a).requires tt ≡ (connectives 𝓤).⊤ₛ
   step_within_takes κs a = refl
 
-  pub step_takes : (κs : Lfts 1) (a : Args step-at.signature κs) → (step-at.spec 𝓛 mem run κs a).requires tt ≡ (connectives 𝓤).⊤ₛ
+  pub step_takes : (κs : Lfts 1) (a : Args step_at_contract.signature κs) → (step_at_contract.spec 𝓛 mem run κs a).requires tt ≡ (connectives 𝓤).⊤ₛ
   step_takes κs a = refl
 
-  pub within_takes : (κs : Lfts 1) (a : Args within.signature κs) → (within.spec 𝓛 mem run κs a).requires tt ≡ (connectives 𝓤).⊤ₛ
+  pub within_takes : (κs : Lfts 1) (a : Args within_contract.signature κs) → (within_contract.spec 𝓛 mem run κs a).requires tt ≡ (connectives 𝓤).⊤ₛ
   within_takes κs a = refl
 
-  pub new_takes : (κs : Lfts 1) (a : Args new.signature κs) → (new.spec 𝓛 mem run κs a).requires tt ≡ (connectives 𝓤).⊤ₛ
+  pub new_takes : (κs : Lfts 1) (a : Args new_contract.signature κs) → (new_contract.spec 𝓛 mem run κs a).requires tt ≡ (connectives 𝓤).⊤ₛ
   new_takes κs a = refl
 
-  pub next_takes : (κs : Lfts 2) (a : Args next.signature κs) → (next.spec 𝓛 mem run κs a).requires tt ≡ (connectives 𝓤).⊤ₛ
+  pub next_takes : (κs : Lfts 2) (a : Args next_contract.signature κs) → (next_contract.spec 𝓛 mem run κs a).requires tt ≡ (connectives 𝓤).⊤ₛ
   next_takes κs a = refl
 
 -- What it answers, and what lent memory holds afterwards
