@@ -37,7 +37,7 @@ use Rattle.reader.specs.declared.walker.Next.{Next}
 use Rattle.reader.proofs.walker.Step.TheLaws as E'
 use Rattle.reader.proofs.walker.Next.TheLaws as S'
 use Rattle.reader.specs.contracts.walker.step_within as step_within
-use Rattle.reader.specs.contracts.walker.step_at as step-at
+use Rattle.reader.specs.contracts.walker.step_at as step_at
 use Rattle.reader.specs.contracts.walker.Walker.within as within
 use Rattle.reader.specs.contracts.walker.Walker.new as new
 use Rattle.reader.specs.contracts.walker.Walker.next as next
@@ -65,7 +65,7 @@ pub step_within_promise : {M : Type 1} {𝓤 : Ura M} (𝓛 : Logic 𝓤) (κs :
 step_within_promise 𝓛 κs mem run l b i r = refl
 
 pub step_promise : {M : Type 1} {𝓤 : Ura M} (𝓛 : Logic 𝓤) (κs : Lfts 1) (mem : Memory → SProp 𝓤) (run : Routine → Fun 𝓤) (b : Bor (List ℕ)) (i : ℕ) (r : Stepped)
-    → step-at.ensures-1 𝓛 κs mem run b i (record { entry = b; exit = b }) (record { entry = i; exit = i }) r ≡ fact 𝓤 (StepPromise level_default b.now i r)
+    → step_at.ensures-1 𝓛 κs mem run b i (record { entry = b; exit = b }) (record { entry = i; exit = i }) r ≡ fact 𝓤 (StepPromise level_default b.now i r)
 step_promise 𝓛 κs mem run b i r = refl
 
 -- no second outcome satisfies the promise of a step

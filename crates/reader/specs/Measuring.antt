@@ -2,7 +2,7 @@
 use Rattle.std.specs.Prelude.{ℕ, zero, suc, ◌+◌, ◌-◌, ◌^◌, ◌≤◌, ◌<◌, ◌≡◌, List, [], ◌∷◌, T, eqb, leb, length}
 use Rattle.standard.specs.Answer.{Answer, got, refuse, Place, at, byte, too_deep, element_unfit, input_short, code_unknown, payload_bad, size_amiss, rows_short, text_short}
 use Rattle.standard.specs.Choose.{if}
-use Rattle.standard.specs.Codes.{whole, Layout, layout_of, is_code, element}
+use Rattle.standard.specs.Codes.{Layout, layout_of, is_code, element}
 use Rattle.standard.specs.Tree.{Tree, Trees, tall, tall*, text, text*}
 use Rattle.standard.specs.Read.{coded, payload}
 use Rattle.reader.specs.declared.measuring.Measured.{Measured}

@@ -1,5 +1,4 @@
 -- `after_row` puts the children's run on top, and keeps what is left of the run below if that is anything.
-use borrow.Author.Rules.{rules}
 use Prim.Native.Nat.{◌-◌}
 use Rattle.laws.specs.Flat.{push}
 use Rattle.reader.proofs.Runs.{kept_more, keeps_more}

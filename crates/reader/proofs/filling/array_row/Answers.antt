@@ -2,7 +2,6 @@
 use Prim.Native.Nat.{◌+◌, ◌≤◌}
 use mathlib.Core.Path.{refl, sym, ◌∙◌}
 use native.Mathlib.Omega.{arith}
-use borrow.Author.Rules.{rules}
 use lib.ListN.{length}
 use Rattle.reader.proofs.RowSteps.{array_fits, empty_row, items_fit, items_element, items_row}
 use Rattle.reader.proofs.filling.array_row.Goals as goal

@@ -1,5 +1,4 @@
 -- `code_at` takes the code that is given, or the value's first byte.
-use borrow.Author.Rules.{rules}
 use Rattle.reader.proofs.RowSteps.{stands_behind, code_fits, begins_with}
 use Rattle.reader.proofs.filling.code_at.Goals as goal
 

@@ -1,6 +1,5 @@
 -- Ten element codes are those of short forms; every other one is its kind.
 use mathlib.Core.Path.{sym, ◌∙◌}
-use borrow.Author.Rules.{rules}
 use borrow.Author.Tests.{ne_eqb}
 use Rattle.standard.specs.Choose.{lookup}
 use Rattle.standard.specs.Codes.{codes, entry_of}

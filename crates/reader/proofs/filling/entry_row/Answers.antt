@@ -1,5 +1,4 @@
 -- `entry_row` gives the row that stands behind a code, layout by layout.
-use borrow.Author.Rules.{rules}
 use mathlib.Core.Path.{◌≡◌}
 use mathlib.Core.Bool.{not}
 use Rattle.standard.specs.InCode.{layout_is}

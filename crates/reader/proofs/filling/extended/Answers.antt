@@ -1,5 +1,4 @@
 -- `extended` is a byte itself below 128; above, what it lacks to a number of its width is put before it.
-use borrow.Author.Rules.{rules}
 use borrow.Author.Tests.{lt-ltb, le-ltb}
 use Rattle.standard.specs.Grammar.{extend, negative}
 use Rattle.reader.proofs.filling.extended.Goals as goal

@@ -1,12 +1,8 @@
 -- `fill` takes row after row. Invariant: what is left from here comes to what was due at the start (`Going`).
-use Prim.Native.Nat.{◌-◌}
-use mathlib.Core.Path.{◌≡◌, refl, ◌∙◌}
+use mathlib.Core.Path.{refl, ◌∙◌}
 use native.Mathlib.Omega.{arith}
-use lib.ListN.{length, length-set}
-use Rattle.standard.specs.Read.{front}
-use Rattle.standard.specs.Outcomes.{level_most, over}
-use Rattle.reader.specs.Filling.{rows_in, text_in}
-use Rattle.reader.proofs.Filled.{Going, begin, end, some_due, row_lands, few_kept, text_fits_lem, again}
+use lib.ListN.{length-set}
+use Rattle.reader.proofs.Filled.{begin, end, some_due, row_lands, few_kept, text_fits_lem, again}
 use Rattle.reader.proofs.filling.fill.Goals as goal
 
 pub loop-row-init : goal.loop-row-init

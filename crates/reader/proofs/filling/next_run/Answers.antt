@@ -1,5 +1,4 @@
 -- `next_run` leaves a run on top that has a value, or takes the last that is kept, which has one.
-use borrow.Author.Rules.{rules}
 use mathlib.Core.Path.{refl}
 use native.Mathlib.Omega.{arith}
 use Rattle.reader.proofs.Runs.{some_kept, popped}

@@ -1,11 +1,8 @@
 -- `put_text` copies from the first byte on. Invariant: what is left of the bytes, at its place, comes to what was due at the start.
-use Prim.Native.Nat.{◌+◌, ◌-◌, ◌≤◌}
-use mathlib.Core.Path.{◌≡◌, refl, ◌∙◌}
+use mathlib.Core.Path.{refl, ◌∙◌}
 use native.Mathlib.Omega.{arith}
-use borrow.Author.Rules.{rules}
-use lib.ListN.{length, take, drop, length-set}
-use lib.Seq.{sets}
-use Rattle.laws.specs.Stores.{left, text_begins, text_goes_on, text_ends}
+use lib.ListN.{length-set}
+use Rattle.laws.specs.Stores.{text_begins, text_goes_on, text_ends}
 use Rattle.reader.proofs.filling.put_text.Goals as goal
 
 pub loop-k-init : goal.loop-k-init

@@ -1,5 +1,4 @@
 -- `row_at` finds the code, and then the row behind it.
-use borrow.Author.Rules.{rules}
 use Rattle.reader.proofs.filling.row_at.Goals as goal
 
 pub row_behind-requires : goal.row_behind-requires

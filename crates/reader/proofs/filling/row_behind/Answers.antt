@@ -1,5 +1,4 @@
 -- Each arm of `row_behind` is a code whose entry says that row.
-use borrow.Author.Rules.{rules}
 use Rattle.standard.specs.Choose.{lookup}
 use Rattle.standard.specs.Codes.{codes, entry_of}
 use Rattle.reader.proofs.RowSteps.{constant_row, described_row}

@@ -1,20 +1,17 @@
 -- Values and what stands behind codes: `many`, `payload`, `behind`, `compound`, `array`, `inside` and `items` call each other.
-use Rattle.std.proofs.Common.{ℕ, ◌≡◌, ◌+◌, ◌-◌, ◌^◌, ◌<◌, ◌≤◌, T, length, sym, ap, ◌∙◌, arith, rules, length-take, length-drop}
+use Rattle.std.proofs.Common.{ℕ, ◌≡◌, ◌+◌, ◌-◌, ◌^◌, ◌<◌, T, length, sym, ap, ◌∙◌, arith}
 use Rattle.std.proofs.lemmas.Bool.{not-true, not-false}
 use mathlib.Core.Bool.{not}
-use Rattle.standard.specs.Read as read
 use Rattle.standard.specs.Codes as codes
-use Rattle.standard.specs.InCode.{layout_is}
 use Rattle.standard.specs.Facts.{and_left}
-use Rattle.standard.specs.declared.format_code.Layout.{Layout}
-use Rattle.reader.specs.Measuring.{measured, contents, below, reach}
+use Rattle.reader.specs.Measuring.{contents}
 use Rattle.reader.specs.Entries.{narrow, judged, sure, compound_kind, compound_width}
 use Rattle.reader.specs.InCode.{body_in}
 use Rattle.reader.specs.declared.measuring.Head.TheVariants.{Own, Under}
 use Rattle.reader.proofs.Entries.{entry_layout, entry_sure, compound_some, compound_none, compound_narrow}
 use Rattle.reader.proofs.Scalars.{constant_is, small_is, raw_is}
 use Rattle.reader.proofs.Rooms.{rest, part_length}
-use Rattle.reader.proofs.Several.{tally_fits, tally_untold, plainly, run_roomy, opened_room, Going, begin, end, stops, ends, again}
+use Rattle.reader.proofs.Several.{tally_fits, tally_untold, plainly, run_roomy, opened_room, Going, end, stops, ends, again}
 use Rattle.reader.proofs.Nodes.{behind_of, compound_of, unknown_is, scalar_is, described_is, Framed, framed, unframed, compound_odd, compound_is, array_is, inside_deep, inside_none, inside_empty, inside_some, items_no, fit_element, items_is}
 use Rattle.reader.proofs.measuring.+array_behind_compound_inside_items_many_payload.Goals as goal
 use Rattle.reader.proofs.measuring.+array_behind_compound_inside_items_many_payload.Goals.{inside-then-count-gt0+else-levels-eq0+else-body-eq0, inside-else-count-gt0}

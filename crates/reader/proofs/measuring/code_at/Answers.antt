@@ -1,7 +1,6 @@
 -- `code_at` makes the checks before a code in the definition's order.
 use native.Mathlib.Omega.{arith}
 use mathlib.Core.Path.{sym}
-use borrow.Author.Rules.{rules}
 use Rattle.reader.proofs.Rooms.{code_deep, code_none, code_own, code_under}
 use Rattle.reader.proofs.measuring.code_at.Goals as goal
 

@@ -1,6 +1,5 @@
 -- `done` tests whether the body is used up, and adds the row above.
 use native.Mathlib.Omega.{arith}
-use borrow.Author.Rules.{rules}
 use borrow.Author.Tests.{eq-eqb, ne_eqb}
 use Rattle.reader.specs.Measuring.{closed}
 use Rattle.reader.proofs.measuring.done.Goals as goal

@@ -1,5 +1,4 @@
 -- `element_of` looks the code up and goes through the layouts.
-use borrow.Author.Rules.{rules}
 use Rattle.standard.specs.Codes as codes
 use Rattle.reader.specs.Measuring.{element_of}
 use Rattle.reader.proofs.Entries.{entry_layout}

@@ -1,7 +1,6 @@
 -- `fields` makes the checks of the definition in its order.
 use mathlib.Core.Path.{sym}
 use native.Mathlib.Omega.{arith}
-use borrow.Author.Rules.{rules}
 use Rattle.reader.proofs.Rooms.{fields_short, fields_amiss, fields_beyond, fields_got}
 use Rattle.reader.proofs.measuring.fields.Goals as goal
 

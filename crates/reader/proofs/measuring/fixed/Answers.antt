@@ -1,5 +1,4 @@
 -- `fixed` asks for its bytes and for nothing else.
-use borrow.Author.Rules.{rules}
 use borrow.Author.Tests.{le-leb, lt-leb}
 use Rattle.reader.proofs.measuring.fixed.Goals as goal
 

@@ -1,5 +1,4 @@
 -- `held` gives a refusal the array's place, but for that of a byte of text.
-use borrow.Author.Rules.{rules}
 use Rattle.reader.specs.Measuring.{held_at}
 use Rattle.reader.proofs.measuring.held.Goals as goal
 

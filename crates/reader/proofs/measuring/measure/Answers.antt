@@ -1,5 +1,4 @@
 -- `measure` is measuring at the limit where none is named.
-use borrow.Author.Rules.{rules}
 use Rattle.reader.proofs.measuring.measure.Goals as goal
 
 pub returns : goal.returns

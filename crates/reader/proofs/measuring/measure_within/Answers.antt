@@ -1,7 +1,6 @@
 -- `measure_within` takes a run of one value from the whole input, at a limit that may be named.
 use mathlib.Core.Path.{sym, ap, ◌∙◌}
 use native.Mathlib.Omega.{arith}
-use borrow.Author.Rules.{rules}
 use Rattle.reader.specs.InCode.{measured_is}
 use Rattle.reader.proofs.Whole.{measure_no, measure_is}
 use Rattle.reader.proofs.measuring.measure_within.Goals as goal

@@ -1,5 +1,4 @@
 -- `plain_width` shifts as the definition does.
-use borrow.Author.Rules.{rules}
 use native.Mathlib.Omega.{arith}
 use Rattle.reader.specs.Entries.{plain_width}
 use Rattle.reader.proofs.Entries.{plain_widths, plain_shifts}

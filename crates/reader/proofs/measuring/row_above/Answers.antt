@@ -1,6 +1,5 @@
 -- `row_above` adds a row.
 use native.Mathlib.Omega.{arith}
-use borrow.Author.Rules.{rules}
 use Rattle.reader.specs.Measuring.{above}
 use Rattle.reader.proofs.measuring.row_above.Goals as goal
 

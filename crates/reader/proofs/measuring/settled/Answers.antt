@@ -1,5 +1,4 @@
 -- `settled` tells the caller what was measured.
-use borrow.Author.Rules.{rules}
 use Rattle.reader.specs.Measuring.{settled_is}
 use Rattle.reader.proofs.measuring.settled.Goals as goal
 

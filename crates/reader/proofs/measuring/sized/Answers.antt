@@ -2,7 +2,6 @@
 use mathlib.Core.Path.{sym, ◌∙◌}
 use mathlib.Core.Bool.{not}
 use native.Mathlib.Omega.{arith}
-use borrow.Author.Rules.{rules}
 use Rattle.standard.specs.Facts.{and_left, and_right}
 use Rattle.reader.specs.Entries.{narrow, judged, sure}
 use Rattle.reader.proofs.Scalars.{sized_short, sized_beyond, sized_bad, sized_good}

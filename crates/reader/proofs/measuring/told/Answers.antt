@@ -1,5 +1,4 @@
 -- `told` says the same as a struct.
-use borrow.Author.Rules.{rules}
 use mathlib.Core.Path.{sym}
 use Rattle.reader.specs.Measuring.{tally_is}
 use Rattle.reader.proofs.measuring.told.Goals as goal

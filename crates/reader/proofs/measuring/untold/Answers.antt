@@ -1,5 +1,4 @@
 -- `untold` tells a byte of text from all else that does not fit.
-use borrow.Author.Rules.{rules}
 use borrow.Author.Tests.{eq-eqb, ne_eqb}
 use Rattle.reader.proofs.measuring.untold.Goals as goal
 

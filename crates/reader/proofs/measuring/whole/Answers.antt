@@ -1,6 +1,5 @@
 -- `whole` makes the checks of the definition in its order.
 use mathlib.Core.Path.{sym, ◌∙◌}
-use borrow.Author.Rules.{rules}
 use Rattle.reader.proofs.Scalars.{whole_short, whole_bad, whole_good}
 use Rattle.reader.proofs.measuring.whole.Goals as goal
 

@@ -1,5 +1,4 @@
 -- `four_at` reads the bytes of a number in straight line, the most significant first: `spelled` at its width.
-use borrow.Author.Rules.{rules}
 use native.Mathlib.Omega.{arith}
 use Rattle.laws.specs.Numbers.{spelled}
 use Rattle.reader.proofs.number.four_at.Goals as goal

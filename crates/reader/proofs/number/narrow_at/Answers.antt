@@ -1,5 +1,4 @@
 -- `narrow_at` reads one byte, or hands four to the function that reads them.
-use borrow.Author.Rules.{rules}
 use native.Mathlib.Omega.{arith}
 use Rattle.laws.specs.Numbers.{spelled}
 use Rattle.reader.proofs.Entries.{narrow_four}

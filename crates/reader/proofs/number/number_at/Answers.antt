@@ -1,5 +1,4 @@
 -- `number_at` hands each width to the function that reads it; eight bytes are two numbers of four.
-use borrow.Author.Rules.{rules}
 use native.Mathlib.Omega.{arith}
 use Rattle.standard.specs.Bytes.{spell}
 use Rattle.laws.specs.Numbers.{halves}

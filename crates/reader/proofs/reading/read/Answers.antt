@@ -1,5 +1,4 @@
 -- `read` is reading at the limit where none is named.
-use borrow.Author.Rules.{rules}
 use Rattle.reader.proofs.reading.read.Goals as goal
 
 pub returns : goal.returns

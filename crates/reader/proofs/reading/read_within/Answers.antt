@@ -1,5 +1,4 @@
 -- `read_within` fills in the value where the answer is one, and else leaves everything as it is.
-use borrow.Author.Rules.{rules}
 use mathlib.Core.Path.{sym, ◌∙◌}
 use Rattle.reader.proofs.Readings.{parts, fillable, read_filled, read_refused}
 use Rattle.reader.proofs.reading.read_within.Goals as goal

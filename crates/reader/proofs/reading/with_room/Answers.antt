@@ -1,5 +1,4 @@
 -- `with_room` compares the rows first, and then the text.
-use borrow.Author.Rules.{rules}
 use borrow.Author.Tests.{le-leb, lt-leb}
 use Rattle.reader.specs.Measuring.{with_room}
 use Rattle.reader.proofs.reading.with_room.Goals as goal

@@ -1,5 +1,4 @@
 -- `step_at` is a step at the limit where none is named.
-use borrow.Author.Rules.{rules}
 use Rattle.reader.proofs.walker.step_at.Goals as goal
 
 pub returns : goal.returns

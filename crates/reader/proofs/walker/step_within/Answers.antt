@@ -1,9 +1,7 @@
 -- `step_within` measures what is left, where the limit may be named and something is left.
 use mathlib.Core.Path.{sym, ap, ◌∙◌}
 use native.Mathlib.Omega.{arith}
-use borrow.Author.Rules.{rules}
-use lib.Dec.{T}
-use Rattle.standard.specs.Outcomes.{in_force, stepped}
+use Rattle.standard.specs.Outcomes.{stepped}
 use Rattle.standard.specs.Facts.{true_T, false_T}
 use Rattle.reader.specs.InCode.{stepped_is}
 use Rattle.laws.specs.Demand1.{step_outside, step_end}
