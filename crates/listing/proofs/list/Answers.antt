@@ -2,7 +2,7 @@
 use Rattle.std.proofs.Common.{◌≤◌, ◌≡◌, length, sym, arith, length-take-le}
 use Rattle.standard.specs.Outcomes.{level_most}
 use Rattle.standard.specs.Listing.{listing}
-use Rattle.listing.specs.Lines.{refused_line, output_most}
+use Rattle.listing.specs.Lines.{refused_line}
 use Rattle.listing.proofs.Puts.{then, whole}
 use Rattle.listing.proofs.Shown.{Listed, listed, refused, listing_short}
 use Rattle.listing.proofs.list.Goals as goal
