@@ -4,7 +4,7 @@ mod common;
 
 use std::fs::{self, File};
 use std::io::Read;
-use std::os::unix::fs::symlink;
+use std::os::unix::fs::PermissionsExt;
 use std::path::Path;
 use std::process::{Command, Stdio};
 
@@ -136,7 +136,11 @@ fn script(name: &str, tools: &[&str]) -> Command {
     for tool in tools {
         let found = Command::new("sh").args(["-c", &format!("command -v {tool}")]).output().unwrap().stdout;
         let found = String::from_utf8(found).unwrap();
-        let _ = symlink(found.trim(), folder.join(tool));
+        let path = folder.join(tool);
+        // not a link: `rt ci` takes a checkout with none
+        let _ = fs::remove_file(&path);
+        fs::write(&path, format!("#!/bin/sh\nexec {} \"$@\"\n", found.trim())).unwrap();
+        fs::set_permissions(&path, fs::Permissions::from_mode(0o755)).unwrap();
     }
     let mut command = Command::new(in_repository("show"));
     command.env("PATH", folder).stdin(Stdio::null());
