@@ -7,7 +7,7 @@ use Rattle.standard.specs.Outcomes as outcome
 use Rattle.reader.specs.InCode.{step_is, stepped_is}
 use Rattle.reader.specs.declared.walker.Step.{Step}
 use Rattle.reader.specs.declared.walker.Stepped.{Stepped}
-use Rattle.export.specs.Boundary.{Sizing, sizing, Writing, writing, Measuring, measuring, Reading, reading, length_in, Stepping, stepping}
+use Rattle.export.specs.Boundary.{Sizing, sizing, writing, Measuring, measuring, reading, length_in, Stepping, stepping}
 
 -- a is the answer in hand, t what is told of it
 

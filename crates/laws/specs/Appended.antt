@@ -8,7 +8,7 @@ use Rattle.std.proofs.Common.{arith, le→leb}
 use Rattle.std.proofs.Math.Dec.{leb, leb→le}
 use Rattle.std.proofs.Math.ListN.{length, drop, length-append}
 use Rattle.std.proofs.Math.Seq.{take-append-le, drop-append-le}
-use Rattle.standard.specs.Answer.{Answer, got, refuse, Place, at, byte, ◌>>=◌, ◌>>◌, need, input_short, size_amiss, payload_bad}
+use Rattle.standard.specs.Answer.{Answer, got, refuse, Place, at, byte, ◌>>=◌, need, input_short, size_amiss, payload_bad}
 use Rattle.standard.specs.Bytes.{unbe}
 use Rattle.standard.specs.Tree.{Tree}
 use Rattle.standard.specs.Codes.{Scalar, constant, whole, small, raw, sized, Layout, unknown, described, scalar, compound, array, layout_of, kind_of}

@@ -1,5 +1,5 @@
 -- What is read has no more rows, and no more bytes of text, than it has bytes; and its kinds are bytes.
-use Rattle.std.specs.Prelude.{ℕ, zero, suc, ◌+◌, ◌*◌, ◌≤◌, ◌<◌, ◌≡◌, refl, List, [], ◌∷◌, ◌++◌, Bool, true, ◌&&◌, T, eqb, leb, ltb, length}
+use Rattle.std.specs.Prelude.{ℕ, zero, suc, ◌*◌, ◌≤◌, ◌<◌, ◌≡◌, refl, List, [], ◌∷◌, ◌++◌, Bool, true, ◌&&◌, T, eqb, leb, ltb, length}
 use native.Mathlib.Omega.{arith}
 use Rattle.std.proofs.Common.{leb→le, ltb→lt, length-append}
 use Rattle.standard.specs.Choose.{lookup}

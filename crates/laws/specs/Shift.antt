@@ -4,7 +4,7 @@ use Rattle.std.specs.Prelude.{◌≡◌, refl, Bool, true, false, leb}
 use mathlib.Core.List.{List, [], ◌∷◌}
 use native.Mathlib.Omega.{arith}
 use Rattle.std.proofs.Math.ListN.{length}
-use Rattle.standard.specs.Answer.{Answer, got, refuse, at, byte, ◌>>=◌, ◌>>◌, need, input_short, size_amiss, payload_bad, code_unknown, element_unfit}
+use Rattle.standard.specs.Answer.{Answer, got, refuse, at, byte, ◌>>=◌, need, input_short, size_amiss, payload_bad, code_unknown, element_unfit}
 use Rattle.standard.specs.Bytes.{unbe}
 use Rattle.standard.specs.Tree.{Tree}
 use Rattle.standard.specs.Codes.{Scalar, constant, whole, small, raw, sized, Layout, unknown, described, scalar, compound, array, layout_of, kind_of, is_code, element}

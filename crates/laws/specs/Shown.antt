@@ -3,7 +3,7 @@ use Prim.Native.Nat.{ℕ, zero, suc, ◌+◌, ◌-◌}
 use Rattle.std.specs.Prelude.{◌≡◌, refl, ◌⊎◌, Bool, true, false, not, T, leb, length}
 use Rattle.std.proofs.Common.{sym, ap, subst, ◌∙◌, inl, inr, arith, add-zero, length-append}
 use mathlib.Core.List.{List, [], ◌∷◌, ◌++◌, append_assoc, append-nil}
-use Rattle.standard.specs.Answer.{Answer, got, refuse, Place, at, byte, ◌>>=◌, need, input_short, code_unknown, element_unfit, payload_bad, size_amiss}
+use Rattle.standard.specs.Answer.{Answer, got, refuse, at, byte, ◌>>=◌, need, input_short, code_unknown, element_unfit, payload_bad, size_amiss}
 use Rattle.standard.specs.Bytes.{unbe}
 use Rattle.standard.specs.Utf8.{BadText}
 use Rattle.standard.specs.Tree.{Tree}
@@ -11,8 +11,7 @@ use Rattle.standard.specs.Codes.{Scalar, constant, whole, small, raw, sized, Lay
 use Rattle.standard.specs.Kinds.{fair, clean, good_length, paired}
 use Rattle.standard.specs.Grammar.{Plain, constant', whole', small', raw', sized', Fields, fields', Coded, Payload}
 use Rattle.standard.specs.Read.{cut, plain, ahead, leaf, many, done, fields, held, items, inside, coded, behind, payload, value, settled, front}
-use Rattle.standard.specs.Facts.{clean_nil}
-use Rattle.laws.specs.Answers.{Holds, yes', no', weaken, need_holds, Left}
+use Rattle.laws.specs.Answers.{Holds, yes', no', need_holds, Left}
 use Rattle.laws.specs.Texts.{bad_text, bad_inside}
 use Rattle.laws.specs.Sound.{Sound, plain_sound, fields_sound, coded_sound, payload_sound}
 

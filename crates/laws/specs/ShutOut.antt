@@ -2,7 +2,7 @@
 -- that can be lent, and of no other, and hold at every level limit in force. Beside each theorem stands a program that it shuts out, which keeps the length of all that it is lent: the theorem
 -- is not true for want of such programs. The promise is the equation to an outcome of Outcomes.antt; that it is what the code's own contracts state is in the
 -- files ShutOut.antt of the writer and of the reader.
-use Rattle.std.specs.Prelude.{ℕ, zero, suc, ◌^◌, ◌<◌, ◌≡◌, refl, List, [], ◌∷◌, true, T, length}
+use Rattle.std.specs.Prelude.{ℕ, zero, suc, ◌^◌, ◌<◌, ◌≡◌, refl, List, [], ◌∷◌, T, length}
 use Rattle.std.proofs.Common.{sym, ap, ◌∙◌, arith, lit<}
 use Rattle.standard.specs.Answer.{Answer, got, refuse, at, output_short, rows_short}
 use Rattle.standard.specs.Choose.{lookup}

@@ -1,5 +1,5 @@
 -- A table holds exactly one value: the valid one whose rows and text it is.
-use Rattle.std.specs.Prelude.{ℕ, zero, suc, ◌+◌, ◌*◌, ◌-◌, ◌/◌, ◌%◌, ◌≡◌, refl, List, [], ◌∷◌, ◌++◌, Bool, true, false, not, ◌||◌, T, eqb, leb, length}
+use Rattle.std.specs.Prelude.{ℕ, zero, suc, ◌+◌, ◌-◌, ◌/◌, ◌%◌, ◌≡◌, refl, List, [], ◌∷◌, ◌++◌, Bool, true, false, not, ◌||◌, T, eqb, leb, length}
 use Rattle.std.proofs.Common.{sym, ap, subst, ◌∙◌, append_assoc, append-nil, arith, le→leb, leb→le, length-append, take-append-drop, length-take-le, take_at, drop_at}
 use Rattle.standard.specs.Answer.{Answer, got, refuse, at, byte, ◌>>=◌, need, rows_amiss, kind_unknown, element_unfit, number_outside, text_amiss}
 use Rattle.standard.specs.Tree.{Tree, node, Trees, none, more, count, rows, rows*, text, text*}

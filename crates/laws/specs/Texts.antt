@@ -1,6 +1,6 @@
 -- The good bytes of a row's text: where they are not all, the next is the faulty one of RFC 3629 and Part 1 (Utf8.antt).
-use Rattle.std.specs.Prelude.{ℕ, ◌+◌, ◌≤◌, ◌<◌, ◌≡◌, refl, List, Bool, true, false, not, T, eqb, length}
-use Rattle.std.proofs.Common.{sym, ap, ◌∙◌, arith, eqb-true, length-append}
+use Rattle.std.specs.Prelude.{ℕ, ◌≤◌, ◌<◌, ◌≡◌, refl, List, Bool, true, false, not, T, eqb, length}
+use Rattle.std.proofs.Common.{ap, ◌∙◌, arith, eqb-true, length-append}
 use Rattle.standard.specs.Choose.{if}
 use Rattle.standard.specs.Utf8.{FirstFault, BadText, bad_string, bad_symbol}
 use Rattle.standard.specs.Text.{Fault, flawless, fault, is_flawless, utf8, ascii, fault_in, good_in}

@@ -1,11 +1,11 @@
 -- At most one front of a run of bytes is well_formed, and reading finds it.
-use Rattle.std.specs.Prelude.{ℕ, ◌+◌, ◌≡◌, List, ◌++◌, length, take, T}
+use Rattle.std.specs.Prelude.{ℕ, ◌≡◌, List, ◌++◌, length, take, T}
 use Rattle.std.proofs.Common.{sym, ap, ◌∙◌, arith, length-append, take_at}
 use Rattle.std.proofs.Math.Seq.{take-append_seam}
 use Rattle.standard.specs.Answer.{Answer, got, at, limit_outside}
 use Rattle.standard.specs.Tree.{Tree}
 use Rattle.standard.specs.Grammar.{Formed}
-use Rattle.standard.specs.Read.{value, settled, front}
+use Rattle.standard.specs.Read.{settled, front}
 use Rattle.standard.specs.Facts.{T_true}
 use Rattle.standard.specs.Outcomes.{in_force, arrived}
 use Rattle.laws.specs.Answers.{Holds, yes', no', on, weaken, out, need_holds, Left}

@@ -11,7 +11,7 @@ use Rattle.standard.specs.Grammar.{extend, negative}
 use Rattle.standard.specs.Read.{cut, plain, leaf, ahead, many, done, fields, held, items, inside, coded, behind, payload, value, front, settled}
 use Rattle.standard.specs.Table.{allowed, naming, ranged, letters, children, spot_in, letter, several, row, tree, spent, table}
 use Rattle.standard.specs.Encode.{encode, compact, shortest, item, payloads, wide, enclosed, fits_byte}
-use Rattle.standard.specs.Outcomes.{level_default, in_force, bytes_of, size, written_to, write, Extent, arrived, measure, read_into, read, Step, end, part, refused, Stepping, stepped, step_in, step}
+use Rattle.standard.specs.Outcomes.{level_default, in_force, bytes_of, size, written_to, write, Extent, arrived, measure, read_into, read, end, part, refused, stepped, step_in, step}
 use Rattle.standard.specs.Listing.{decimal_in, hex_digit, hex, line, lines, shown, listing}
 
 pub record Example : Type 0 where

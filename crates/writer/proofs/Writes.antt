@@ -11,7 +11,7 @@ use lib.Seq.{sets, length-sets, sets-eq, take_at, drop_at, length-take-le}
 use Rattle.standard.specs.Choose.{if}
 use Rattle.standard.specs.Answer.{Answer, got, refuse, Place, at, ◌>>=◌, output_short}
 use Rattle.standard.specs.Tree.{Tree}
-use Rattle.standard.specs.Table.{any, tree, table}
+use Rattle.standard.specs.Table.{any, table}
 use Rattle.standard.specs.Encode.{encode}
 use Rattle.standard.specs.Outcomes.{bytes_of, size, written_to, write}
 use Rattle.laws.specs.Levels.{limit_most, table_more}

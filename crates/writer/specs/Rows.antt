@@ -1,6 +1,6 @@
 -- The checks of one row, before its children (docs/FORMAT.md, 5.2).
 use Rattle.std.specs.Prelude.{ℕ, zero, suc, ◌+◌, List, [], ◌∷◌, leb, length, take}
-use Rattle.standard.specs.Answer.{Answer, got, refuse, at, ◌>>=◌, ◌>>◌, need, rows_amiss, kind_unknown, too_deep, element_unfit, number_outside, text_amiss}
+use Rattle.standard.specs.Answer.{Answer, got, refuse, at, ◌>>◌, need, rows_amiss, kind_unknown, too_deep, element_unfit, number_outside, text_amiss}
 use Rattle.standard.specs.Kinds.{style_of, is_kind, clean, good_length}
 use Rattle.standard.specs.Table.{Spot, allowed, naming, spot_in, ranged, letters}
 

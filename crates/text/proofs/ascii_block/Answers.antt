@@ -1,9 +1,7 @@
 -- `text::ascii_block` meets its contract. The invariant: the highest of the first i bytes is ASCII just where i bytes of ASCII stand there.
-use Prim.Native.Nat.{◌-◌, ◌≤◌}
 use mathlib.Core.Path.{◌≡◌, sym, ◌∙◌}
 use native.Mathlib.Omega.{arith}
-use borrow.Author.Rules.{rules}
-use lib.Dec.{leb, leb-zero, leb-suc-suc}
+use lib.Dec.{leb-zero, leb-suc-suc}
 use lib.ListN.{drop}
 use Rattle.text.specs.Steps.{ascii_run}
 use Rattle.text.proofs.Ascii.{run_short, top_more}

@@ -1,13 +1,9 @@
 -- `text::ascii_block` meets its contract. The invariant: the highest of the first i bytes is ASCII just where i bytes of ASCII stand there.
 use Prim.Native.Nat.{◌-◌, ◌≤◌}
-use mathlib.Core.Path.{◌≡◌, sym, ◌∙◌}
-use mathlib.Core.Logic.{⊎_elim}
-use native.Mathlib.Omega.{arith}
-use borrow.Author.Rules.{rules}
-use lib.Dec.{leb, leb-zero, leb-suc-suc}
+use mathlib.Core.Path.{◌≡◌}
+use lib.Dec.{leb}
 use lib.ListN.{drop}
 use Rattle.text.specs.Steps.{ascii_run}
-use Rattle.text.proofs.Ascii.{run_short, top_more}
 use Rattle.text.proofs.ascii_block.Given as goal
 
 abbrev pub invariant-loop-i : goal.invariant-loop-i

@@ -1,6 +1,5 @@
 -- `text::ascii_fault` meets its contract: what ends the ASCII bytes from the start is the end of the text, or its first fault.
 use mathlib.Core.Path.{sym, ◌∙◌}
-use borrow.Author.Rules.{rules}
 use Rattle.standard.specs.Text.{ascii}
 use Rattle.text.proofs.Sequences.{ends}
 use Rattle.text.proofs.Ascii.{run_past, run_skip, run_stop}

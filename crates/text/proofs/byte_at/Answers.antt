@@ -1,7 +1,6 @@
 -- `text::byte_at` meets its contract: past the end no byte stands, and elsewhere the two tests are those of the range.
 use mathlib.Core.Path.{sym, ◌∙◌}
 use borrow.Author.Tests.{le-leb, lt-leb}
-use borrow.Author.Rules.{rules}
 use lib.ListN.{drop_of_length-le}
 use Rattle.text.specs.Steps.{stand}
 use Rattle.text.proofs.Sequences.{stand_at}

@@ -1,5 +1,4 @@
 -- `flaw_of` asks the check of the kind.
-use borrow.Author.Rules.{rules}
 use borrow.Author.Tests.{eq-eqb, ne_eqb}
 use Rattle.standard.specs.Kinds.{flaw}
 use Rattle.text.proofs.flaw_of.Goals as goal

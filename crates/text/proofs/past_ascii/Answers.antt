@@ -1,10 +1,6 @@
 -- `text::past_ascii` meets its contract. The invariant: what is left of the ASCII bytes ends where those from the start do.
-use Prim.Native.Nat.{◌+◌, ◌-◌}
-use mathlib.Core.Path.{◌≡◌, ◌∙◌}
+use mathlib.Core.Path.{◌∙◌}
 use native.Mathlib.Omega.{arith}
-use borrow.Author.Rules.{rules}
-use lib.ListN.{length, drop}
-use Rattle.text.specs.Steps.{ascii_run}
 use Rattle.text.proofs.Ascii.{run_within, run_end, run_some, run_none}
 use Rattle.text.proofs.past_ascii.Goals as goal
 

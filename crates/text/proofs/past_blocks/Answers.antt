@@ -1,10 +1,9 @@
 -- `text::past_blocks` meets its contract, which is the loop's invariant: what is left of the ASCII bytes ends where those from the start do.
-use Prim.Native.Nat.{◌+◌, ◌-◌, ◌≤◌}
-use mathlib.Core.Path.{◌≡◌, refl, sym, ◌∙◌}
+use Prim.Native.Nat.{◌≤◌}
+use mathlib.Core.Path.{refl, sym, ◌∙◌}
 use native.Mathlib.Omega.{arith}
 use borrow.Author.Tests.{leb-true}
-use borrow.Author.Rules.{rules}
-use lib.ListN.{length, drop}
+use lib.ListN.{drop}
 use Rattle.text.specs.Steps.{ascii_run}
 use Rattle.text.proofs.Ascii.{run_within, run_end}
 use Rattle.text.proofs.past_blocks.Goals as goal

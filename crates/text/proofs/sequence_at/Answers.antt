@@ -2,7 +2,6 @@
 use Prim.Native.Nat.{◌+◌}
 use mathlib.Core.List.{[], ◌∷◌}
 use mathlib.Core.Path.{◌≡◌, sym, ap, ◌∙◌}
-use borrow.Author.Rules.{rules}
 use lib.ListN.{drop, drop_of_length-le}
 use Rattle.standard.specs.Text.{tail, utf8}
 use Rattle.text.specs.Steps.{lead_is, stand, width_by, width_in}

@@ -1,12 +1,9 @@
 -- `text::utf8_fault` meets its contract. The invariant: the first fault of what is left is the first fault of the text.
 use Prim.Native.Nat.{◌-◌, ◌≤◌}
-use mathlib.Core.Path.{◌≡◌, sym, ◌∙◌}
-use native.Mathlib.Omega.{arith}
-use borrow.Author.Rules.{rules}
+use mathlib.Core.Path.{◌≡◌}
 use lib.ListN.{length}
 use Rattle.standard.specs.Text.{utf8, fault_in}
-use Rattle.text.proofs.Sequences.{fault_from, stops, goes, ends, width_within}
-use Rattle.text.proofs.Ascii.{run_within, run_some, run_skip}
+use Rattle.text.proofs.Sequences.{fault_from}
 use Rattle.text.proofs.utf8_fault.Given as goal
 
 abbrev pub invariant-loop-at : goal.invariant-loop-at

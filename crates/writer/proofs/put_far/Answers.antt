@@ -1,5 +1,4 @@
 -- `put_far` stores marks that are not near.
-use borrow.Author.Rules.{rules}
 use mathlib.Core.Path.{refl}
 use native.Mathlib.Omega.{arith}
 use Rattle.writer.proofs.put_far.Goals as goal

@@ -1,5 +1,4 @@
 -- `put_near` stores marks that are near.
-use borrow.Author.Rules.{rules}
 use borrow.Author.Tests.{le-leb, lt-leb}
 use native.Mathlib.Omega.{arith}
 use Rattle.writer.proofs.put_near.Goals as goal

@@ -1,5 +1,4 @@
 -- `size` is sizing at the limit where none is named.
-use borrow.Author.Rules.{rules}
 use Rattle.writer.proofs.size.Goals as goal
 
 pub returns : goal.returns

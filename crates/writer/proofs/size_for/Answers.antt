@@ -1,5 +1,4 @@
 -- `size_for` refuses as sizing does, then for want of room; else marks that are near are at their place.
-use borrow.Author.Rules.{rules}
 use mathlib.Core.Path.{refl}
 use Rattle.writer.proofs.Writes.{marks_inside, writable, write_no, write_short, write_good}
 use Rattle.writer.proofs.size_for.Goals as goal

@@ -1,5 +1,4 @@
 -- `size_table` makes the check of the limit, and the checks behind the last row, in the order of the definition.
-use borrow.Author.Rules.{rules}
 use mathlib.Core.Path.{sym, ◌∙◌}
 use native.Mathlib.Omega.{arith}
 use Rattle.writer.proofs.Turns.{at_start}

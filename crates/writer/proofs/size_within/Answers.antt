@@ -1,5 +1,4 @@
 -- `size_within` hands on what sizing found.
-use borrow.Author.Rules.{rules}
 use mathlib.Core.Path.{sym}
 use Rattle.writer.proofs.Whole.{fits_size}
 use Rattle.writer.proofs.size_within.Goals as goal

@@ -1,5 +1,4 @@
 -- `write` is writing at the limit where none is named.
-use borrow.Author.Rules.{rules}
 use Rattle.writer.proofs.write.Goals as goal
 
 pub returns : goal.returns

@@ -1,6 +1,4 @@
 -- `write_table` puts the marks to the end, where they are not there yet, and then the rows from the front.
-use borrow.Author.Rules.{rules}
-use mathlib.Core.Path.{◌∙◌}
 use Rattle.writer.proofs.Writes.{markable, marked, fillable, all_bytes}
 use Rattle.writer.proofs.write_table.Goals as goal
 

@@ -1,5 +1,4 @@
 -- `write_within` refuses as sizing for the output does; else the table is written to the front.
-use borrow.Author.Rules.{rules}
 use mathlib.Core.Path.{◌∙◌}
 use Rattle.writer.proofs.Writes.{parts}
 use Rattle.writer.proofs.write_within.Goals as goal

@@ -1,19 +1,17 @@
 -- A table's rows are written one after another; the elements of an array are written by a call. Each row that is taken makes the measure
-use Prim.Native.Nat.{ℕ, ◌+◌, ◌*◌, ◌-◌, ◌≤◌, ◌<◌}
+use Prim.Native.Nat.{ℕ, ◌+◌, ◌*◌, ◌≤◌}
 use mathlib.Core.Path.{◌≡◌, refl, ap, ◌∙◌}
 use mathlib.Core.List.{List, ◌++◌}
 use mathlib.Core.Bool.{true}
 use native.Mathlib.Omega.{arith}
-use borrow.Author.Rules.{rules}
-use borrow.Author.Tests.{leb-true, leb-false}
 use lib.ListN.{length, take, drop}
 use lib.Seq.{sets}
 use Rattle.standard.specs.Bytes.{unbe}
-use Rattle.standard.specs.Tree.{Trees, none}
+use Rattle.standard.specs.Tree.{none}
 use Rattle.standard.specs.Kinds.{count_in, kind_in}
 use Rattle.standard.specs.Encode.{encode*, payloads}
 use Rattle.writer.specs.Heads.{mode_is}
-use Rattle.writer.specs.Filling.{beyond, number_at, mark_at, Ready, Stepped, Rows, Going}
+use Rattle.writer.specs.Filling.{beyond, number_at, mark_at, Ready, Stepped, Going}
 use Rattle.writer.specs.declared.filling.Cursor.{Cursor}
 use Rattle.writer.proofs.Rows.{no_array, one_ready, ArrayIn, array_in, rows_of, rows_due, row_there, whole_turn, ElementTurn, element_turn, last_room, finished}
 use Rattle.writer.proofs.Cursors.{mark_room, list_mark, array_mark}

@@ -1,5 +1,5 @@
 -- Each row that is taken makes the measure smaller. Invariant of the loop: what is left at the cursor comes to what was due at the start (`Going`).
-use Rattle.std.proofs.Common.{◌-◌, ◌≡◌, ℕ, ◌+◌, ◌*◌, ◌≤◌, List, ◌++◌, true, length}
+use Rattle.std.proofs.Common.{◌-◌, ◌≡◌, ℕ, ◌+◌, ◌*◌, ◌≤◌, ◌++◌, true, length}
 use Rattle.std.proofs.lemmas.List.Edits.{sets}
 use Rattle.standard.specs.Tree.{Trees}
 use Rattle.standard.specs.Encode.{encode*, payloads}

@@ -1,5 +1,4 @@
 -- `fill` writes the one value of a table, from the first row on: what is before the first array, and then the rest.
-use borrow.Author.Rules.{rules}
 use mathlib.Core.Path.{◌∙◌}
 use Rattle.writer.proofs.Rows.{begin, rows_due, table_again, table_done, table_filled}
 use Rattle.writer.proofs.filling.fill.Goals as goal

@@ -1,14 +1,6 @@
 -- `fill_plain` writes element after element. Invariant: what is left at the cursor comes to what was due (`Going`).
-use Prim.Native.Nat.{ℕ, ◌-◌, ◌*◌, ◌<◌}
-use mathlib.Core.Path.{◌≡◌, refl, ap, ◌∙◌}
-use mathlib.Core.List.{◌++◌}
-use mathlib.Core.Bool.{false}
+use mathlib.Core.Path.{refl, ap, ◌∙◌}
 use native.Mathlib.Omega.{arith}
-use lib.ListN.{length}
-use lib.Seq.{sets}
-use Rattle.standard.specs.Tree.{Trees, none}
-use Rattle.standard.specs.Encode.{encode*, payloads}
-use Rattle.writer.specs.Filling.{beyond, Elements, Going}
 use Rattle.writer.proofs.Rows.{plain_due, plain_turn, finished}
 use Rattle.writer.proofs.filling.fill_plain.Goals as goal
 

@@ -1,9 +1,7 @@
 -- `fill_values` writes value after value. Invariant: what is left at the cursor comes to what was due (`Ran`).
-use Prim.Native.Nat.{ℕ, ◌-◌, ◌*◌, ◌<◌}
-use mathlib.Core.Path.{◌≡◌, refl, ap, ◌∙◌}
+use mathlib.Core.Path.{refl, ap, ◌∙◌}
 use native.Mathlib.Omega.{arith}
-use lib.ListN.{length}
-use Rattle.writer.proofs.Rows.{no_array, Ran, ran_none, ran_row, ran_ready, ran_on, ran_end}
+use Rattle.writer.proofs.Rows.{no_array, ran_none, ran_row, ran_ready, ran_on, ran_end}
 use Rattle.writer.proofs.filling.fill_values.Goals as goal
 
 pub loop-c-init : goal.loop-c-init

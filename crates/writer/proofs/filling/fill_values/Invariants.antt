@@ -1,9 +1,8 @@
 -- `fill_values` writes value after value. Invariant: what is left at the cursor comes to what was due (`Ran`).
-use Prim.Native.Nat.{ℕ, ◌-◌, ◌*◌, ◌<◌}
-use mathlib.Core.Path.{◌≡◌, refl, ap, ◌∙◌}
-use native.Mathlib.Omega.{arith}
+use Prim.Native.Nat.{◌-◌, ◌*◌}
+use mathlib.Core.Path.{◌≡◌}
 use lib.ListN.{length}
-use Rattle.writer.proofs.Rows.{no_array, Ran, ran_none, ran_row, ran_ready, ran_on, ran_end}
+use Rattle.writer.proofs.Rows.{Ran}
 use Rattle.writer.proofs.filling.fill_values.Given as goal
 
 abbrev pub invariant-loop-c : goal.invariant-loop-c

@@ -1,5 +1,4 @@
 -- `mark_at` reads the number that the bytes of a mark spell, or 0 where there is none.
-use borrow.Author.Rules.{rules}
 use mathlib.Core.Path.{refl}
 use native.Mathlib.Omega.{arith}
 use lib.Dec.{lit<}

@@ -1,5 +1,4 @@
 -- `mark_width` is the width of a row's mark, style by style.
-use borrow.Author.Rules.{rules}
 use Rattle.standard.specs.Kinds.{count_in}
 use Rattle.writer.specs.Marks.{mark_width}
 use Rattle.writer.proofs.filling.mark_width.Goals as goal

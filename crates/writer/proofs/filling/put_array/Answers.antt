@@ -1,5 +1,4 @@
 -- `put_array` writes size and count, and the code of the elements behind them, which are all of the row.
-use borrow.Author.Rules.{rules}
 use Prim.Native.Nat.{◌+◌, ◌≤◌}
 use mathlib.Core.Path.{refl, ◌∙◌}
 use mathlib.Core.List.{[], ◌∷◌}

@@ -1,5 +1,4 @@
 -- `put_array_fields` writes size and count, of an element in full width.
-use borrow.Author.Rules.{rules}
 use native.Mathlib.Omega.{arith}
 use lib.ListN.{length-append}
 use Rattle.laws.specs.Numbers.{length_be}

@@ -1,5 +1,4 @@
 -- `put_compound` goes by the kind; the last arm is left for rows that are no list and no map.
-use borrow.Author.Rules.{rules}
 use borrow.Author.Tests.{ne_eqb}
 use Prim.Native.Nat.{◌%◌}
 use mathlib.Core.Path.{refl}

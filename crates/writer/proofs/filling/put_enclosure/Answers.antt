@@ -1,5 +1,4 @@
 -- `put_enclosure` takes the short form below 255 bytes.
-use borrow.Author.Rules.{rules}
 use borrow.Author.Tests.{lt-ltb, le-ltb}
 use native.Mathlib.Omega.{arith}
 use Rattle.writer.specs.Heads.{enclosure}

@@ -1,6 +1,4 @@
 -- `put_head` stores a code and two numbers, one behind the other.
-use borrow.Author.Rules.{rules}
-use mathlib.Core.Path.{◌∙◌}
 use native.Mathlib.Omega.{arith}
 use lib.ListN.{length-set}
 use Rattle.writer.proofs.Stores.{length_head, head_put}

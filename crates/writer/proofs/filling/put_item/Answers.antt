@@ -2,7 +2,6 @@
 use mathlib.Core.Path.{refl}
 use native.Mathlib.Omega.{arith}
 use Rattle.writer.proofs.Cursors.{scalar_parts, parts_put, part_sums}
-use borrow.Author.Rules.{rules}
 use Rattle.writer.proofs.filling.put_item.Goals as goal
 
 pub put_be-requires : goal.put_be-requires

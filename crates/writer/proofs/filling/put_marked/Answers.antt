@@ -1,5 +1,4 @@
 -- `put_marked` reads the size of the body.
-use borrow.Author.Rules.{rules}
 use native.Mathlib.Omega.{arith}
 use Rattle.writer.proofs.filling.put_marked.Goals as goal
 

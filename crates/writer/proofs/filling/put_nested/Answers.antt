@@ -1,5 +1,4 @@
 -- `put_nested` writes size and count, which are all of the row.
-use borrow.Author.Rules.{rules}
 use mathlib.Core.Path.{refl}
 use native.Mathlib.Omega.{arith}
 use Rattle.writer.proofs.Cursors.{nested_parts, part_put, part_sums}

@@ -7,7 +7,6 @@ use mathlib.Core.Path.{refl}
 use native.Mathlib.Omega.{arith}
 use Rattle.writer.proofs.Stores.{length_head}
 use Rattle.writer.proofs.Cursors.{mark_room, parts, parts_put, part_sums}
-use borrow.Author.Rules.{rules}
 use Rattle.writer.proofs.filling.put_styled.Goals as goal
 use Rattle.writer.proofs.filling.put_styled.Goals.{After-head_of-h}
 

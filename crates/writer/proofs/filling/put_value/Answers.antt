@@ -1,5 +1,4 @@
 -- `put_value` tries one way after another: where one has nothing to write, the output is as it was, and the next is tried.
-use borrow.Author.Rules.{rules}
 use Prim.Native.Nat.{◌+◌, ◌^◌, ◌≤◌, ◌<◌}
 use mathlib.Core.Path.{◌≡◌, refl, ap, ◌∙◌}
 use mathlib.Core.List.{[], ◌∷◌}

@@ -1,5 +1,4 @@
 -- Three bytes before a short body, nine before a long one.
-use borrow.Author.Rules.{rules}
 use native.Mathlib.Omega.{arith}
 use borrow.Author.Tests.{lt-ltb, le-ltb}
 use Rattle.standard.specs.Encode.{short_end}

@@ -1,5 +1,4 @@
 -- `head_of` is the definition's head, style by style; arrays are left out.
-use borrow.Author.Rules.{rules}
 use mathlib.Core.Path.{subst}
 use lib.Dec.{T}
 use Rattle.standard.specs.Bytes.{be}

@@ -1,5 +1,4 @@
 -- The bytes before a value's text, by its style.
-use borrow.Author.Rules.{rules}
 use mathlib.Core.Path.{sym, ◌∙◌}
 use native.Mathlib.Omega.{arith}
 use Prim.Native.Nat.{◌%◌}

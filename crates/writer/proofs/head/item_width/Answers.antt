@@ -1,5 +1,4 @@
 -- `item_width` is the definition's, style by style.
-use borrow.Author.Rules.{rules}
 use Rattle.writer.specs.Heads.{item_width}
 use Rattle.writer.proofs.head.item_width.Goals as goal
 

@@ -1,5 +1,4 @@
 -- The width of a number in the shortest form, behind its code.
-use borrow.Author.Rules.{rules}
 use mathlib.Core.Path.{sym, ◌∙◌}
 use native.Mathlib.Omega.{arith}
 use lib.Dec.{eqb}

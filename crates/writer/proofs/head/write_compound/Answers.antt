@@ -1,5 +1,4 @@
 -- `write_compound` takes the short form below 255 bytes of body.
-use borrow.Author.Rules.{rules}
 use borrow.Author.Tests.{lt-ltb, le-ltb}
 use Rattle.standard.specs.Bytes.{be}
 use Rattle.writer.specs.Heads.{enclosure}

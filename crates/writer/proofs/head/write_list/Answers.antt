@@ -1,5 +1,4 @@
 -- `write_list` has a code of its own for the empty list.
-use borrow.Author.Rules.{rules}
 use borrow.Author.Tests.{eq-eqb, ne_eqb}
 use Rattle.standard.specs.Bytes.{be}
 use Rattle.writer.proofs.head.write_list.Goals as goal

@@ -1,5 +1,4 @@
 -- `write_text` takes the short form below 255 bytes.
-use borrow.Author.Rules.{rules}
 use borrow.Author.Tests.{lt-ltb, le-ltb}
 use Rattle.standard.specs.Bytes.{be}
 use Rattle.writer.proofs.head.write_text.Goals as goal

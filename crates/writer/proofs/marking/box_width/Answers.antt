@@ -1,6 +1,5 @@
 -- An element has its size and count in full width, a value by its body.
 use native.Mathlib.Omega.{arith}
-use borrow.Author.Rules.{rules}
 use Rattle.writer.specs.Heads.{values}
 use Rattle.writer.proofs.Onward.{bit, box_value, box_element, box_small}
 use Rattle.writer.proofs.marking.box_width.Goals as goal

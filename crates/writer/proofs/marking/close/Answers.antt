@@ -1,5 +1,4 @@
 -- `close` takes three numbers from the stack, and stores a mark.
-use borrow.Author.Rules.{rules}
 use native.Mathlib.Omega.{arith}
 use Rattle.writer.proofs.Onward.{box_small}
 use Rattle.writer.proofs.marking.close.Goals as goal

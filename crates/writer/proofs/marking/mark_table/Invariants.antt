@@ -1,12 +1,7 @@
 -- `mark_table` takes row after row, and closes what is complete. Invariant: what is left makes the buffer that was to be made.
-use borrow.Author.Rules.{rules}
-use mathlib.Core.Path.{refl, ap, ◌∙◌}
-use native.Mathlib.Omega.{arith}
-use lib.ListN.{length}
-use lib.Seq.{length-sets}
 use Rattle.standard.specs.Tree.{Tree}
 use Rattle.writer.specs.Marking.{Markable}
-use Rattle.writer.proofs.Onward.{Due, to_go, few_words, goal, begun, left_small, turn, ended, finished}
+use Rattle.writer.proofs.Onward.{Due, to_go, goal}
 use Rattle.writer.proofs.marking.mark_table.Given as goal
 
 abbrev pub invariant-loop-c : goal.invariant-loop-c

@@ -1,5 +1,4 @@
 -- Each kind of number has its own arm; the last arm is left for kinds that hold no number.
-use borrow.Author.Rules.{rules}
 use Prim.Native.Nat.{◌%◌}
 use mathlib.Core.Path.{sym}
 use lib.Dec.{eqb}

@@ -1,5 +1,4 @@
 -- `open` puts three numbers onto the stack.
-use borrow.Author.Rules.{rules}
 use Prim.Native.Nat.{◌-◌}
 use mathlib.Core.Path.{refl}
 use native.Mathlib.Omega.{arith}

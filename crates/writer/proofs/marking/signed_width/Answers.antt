@@ -1,5 +1,4 @@
 -- What fits a byte in two's complement has a code of its own.
-use borrow.Author.Rules.{rules}
 use mathlib.Core.Path.{sym}
 use Rattle.standard.specs.Encode.{shortest}
 use Rattle.writer.proofs.Direct.{coded_long}

@@ -1,5 +1,4 @@
 -- `take_row` goes on behind a row, whatever it is.
-use borrow.Author.Rules.{rules}
 use mathlib.Core.Path.{sym, ◌∙◌}
 use native.Mathlib.Omega.{arith}
 use Rattle.standard.specs.Kinds.{count_in}

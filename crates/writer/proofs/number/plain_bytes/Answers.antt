@@ -1,5 +1,4 @@
 -- `plain_bytes` computes as the law does.
-use borrow.Author.Rules.{rules}
 use Rattle.writer.proofs.Plain.{plain_low, plain_bytes}
 use Rattle.writer.proofs.number.plain_bytes.Goals as goal
 

@@ -1,5 +1,4 @@
 -- `plain_need` asks by a shift whether a number is beyond so many bits.
-use borrow.Author.Rules.{rules}
 use native.Mathlib.Omega.{arith}
 use Rattle.writer.proofs.Plain.{beyond, within}
 use Rattle.writer.proofs.number.plain_need.Goals as goal

@@ -1,5 +1,4 @@
 -- What passes the tests is a plain number.
-use borrow.Author.Rules.{rules}
 use Prim.Native.Nat.{◌%◌}
 use native.Mathlib.Omega.{arith}
 use borrow.Author.Tests.{lt-ltb}

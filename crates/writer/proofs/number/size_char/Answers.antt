@@ -1,5 +1,4 @@
 -- A character in range takes four bytes behind its code.
-use borrow.Author.Rules.{rules}
 use Rattle.writer.proofs.Sizes.{char_yes, char_no}
 use Rattle.writer.proofs.number.size_char.Goals as goal
 

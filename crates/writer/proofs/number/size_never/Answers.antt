@@ -1,5 +1,4 @@
 -- A number with no short form is its code and itself.
-use borrow.Author.Rules.{rules}
 use Rattle.writer.proofs.Sizes.{never_yes, if_no}
 use mathlib.Core.Path.{refl}
 use Rattle.writer.proofs.number.size_never.Goals as goal

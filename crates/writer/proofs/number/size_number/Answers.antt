@@ -1,5 +1,4 @@
 -- Each kind of number has its own arm; the kinds of the table that hold a number are these.
-use borrow.Author.Rules.{rules}
 use Rattle.standard.specs.Choose.{lookup}
 use Rattle.standard.specs.Kinds.{never, unsigned, signed, kinds, style_of, fair}
 use Rattle.standard.specs.Table.{ranged}

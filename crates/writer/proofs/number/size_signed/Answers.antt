@@ -1,7 +1,5 @@
 -- What fits a byte in two's complement has a code of its own.
-use borrow.Author.Rules.{rules}
 use Rattle.writer.proofs.Sizes.{signed_byte, signed_wide, if_no}
-use Rattle.writer.proofs.Checks.{not_true, not_false}
 use mathlib.Core.Path.{refl}
 use Rattle.writer.proofs.number.size_signed.Goals as goal
 

@@ -1,11 +1,9 @@
 -- `copy_all` copies from the first byte on. Invariant: what is left of the text, at its place, comes to what was due at the start.
 use Prim.Native.Nat.{◌+◌, ◌-◌, ◌≤◌}
-use mathlib.Core.Path.{◌≡◌, refl, ◌∙◌}
-use native.Mathlib.Omega.{arith}
-use borrow.Author.Rules.{rules}
-use lib.ListN.{length, take, drop, length-set}
+use mathlib.Core.Path.{◌≡◌}
+use lib.ListN.{length, take, drop}
 use lib.Seq.{sets}
-use Rattle.laws.specs.Stores.{left, text_begins, text_goes_on, text_ends}
+use Rattle.laws.specs.Stores.{left}
 use Rattle.writer.proofs.put.copy_all.Given as goal
 
 abbrev pub invariant-loop-k : goal.invariant-loop-k

@@ -1,5 +1,4 @@
 -- `copy_four` stores four bytes in straight line: `four_bytes`.
-use borrow.Author.Rules.{rules}
 use native.Mathlib.Omega.{arith}
 use lib.ListN.{length-set}
 use Rattle.writer.proofs.Stores.{four_bytes}

@@ -1,5 +1,4 @@
 -- `put_be` stores one byte itself, and hands every other width to the function that stores it.
-use borrow.Author.Rules.{rules}
 use Rattle.writer.proofs.Stores.{spread}
 use Rattle.writer.proofs.put.put_be.Goals as goal
 

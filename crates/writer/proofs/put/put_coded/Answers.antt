@@ -1,5 +1,4 @@
 -- `put_coded` stores a code, and a number behind it.
-use borrow.Author.Rules.{rules}
 use mathlib.Core.Path.{sym, ◌∙◌}
 use native.Mathlib.Omega.{arith}
 use lib.ListN.{length-set}

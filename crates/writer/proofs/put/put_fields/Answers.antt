@@ -4,7 +4,6 @@ use native.Mathlib.Omega.{arith}
 use Rattle.laws.specs.Numbers.{length_be}
 use Rattle.laws.specs.Stores.{put_on}
 use Prim.Native.Nat.{◌+◌}
-use borrow.Author.Rules.{rules}
 use Rattle.writer.proofs.put.put_fields.Goals as goal
 
 pub returns : goal.returns

@@ -1,5 +1,4 @@
 -- `put_flag` stores one of two codes.
-use borrow.Author.Rules.{rules}
 use borrow.Author.Tests.{eq-eqb, ne_eqb}
 use Rattle.standard.specs.Bytes.{be}
 use Rattle.writer.proofs.put.put_flag.Goals as goal

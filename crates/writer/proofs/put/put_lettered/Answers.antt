@@ -1,5 +1,4 @@
 -- `put_lettered` takes the shorter of two forms.
-use borrow.Author.Rules.{rules}
 use borrow.Author.Tests.{lt-ltb, le-ltb}
 use Rattle.writer.specs.Direct.{spelled}
 use Rattle.writer.proofs.put.put_lettered.Goals as goal

@@ -1,5 +1,4 @@
 -- `put_letters` goes by the kind; the last arm is left for kinds that hold no letters.
-use borrow.Author.Rules.{rules}
 use Prim.Native.Nat.{◌%◌}
 use mathlib.Core.Path.{refl}
 use lib.ListN.{drop}

@@ -1,5 +1,4 @@
 -- `put_number` goes by the kind, arm by arm; the last arm is left for kinds that hold no number.
-use borrow.Author.Rules.{rules}
 use Prim.Native.Nat.{◌%◌}
 use mathlib.Core.Path.{refl}
 use Rattle.standard.specs.Choose.{lookup}

@@ -1,5 +1,4 @@
 -- `put_run` stores a code and a length, and the text behind them.
-use borrow.Author.Rules.{rules}
 use Prim.Native.Nat.{◌+◌}
 use mathlib.Core.Path.{◌≡◌}
 use mathlib.Core.List.{◌∷◌, ◌++◌}

@@ -1,5 +1,4 @@
 -- `put_signed` takes the shorter of two forms.
-use borrow.Author.Rules.{rules}
 use Rattle.standard.specs.Encode.{shortest}
 use Rattle.writer.proofs.put.put_signed.Goals as goal
 

@@ -1,5 +1,4 @@
 -- `put_sized` stores a code and a number, and a second number behind them.
-use borrow.Author.Rules.{rules}
 use Prim.Native.Nat.{◌+◌}
 use mathlib.Core.Path.{◌≡◌}
 use mathlib.Core.List.{◌∷◌, ◌++◌}

@@ -1,5 +1,4 @@
 -- `put_text` copies both ends of a short text, which are all of it, and hands any other to `copy_all`.
-use borrow.Author.Rules.{rules}
 use mathlib.Core.Path.{◌∙◌}
 use Rattle.writer.proofs.Stores.{both_ends}
 use Rattle.writer.proofs.put.put_text.Goals as goal

@@ -1,5 +1,4 @@
 -- `put_two` stores the bytes of a number in straight line, the most significant first: `spread` at its width.
-use borrow.Author.Rules.{rules}
 use native.Mathlib.Omega.{arith}
 use lib.ListN.{length-set}
 use Rattle.writer.proofs.Stores.{spread}

@@ -1,5 +1,4 @@
 -- `put_unsigned` takes the shortest of three forms.
-use borrow.Author.Rules.{rules}
 use borrow.Author.Tests.{eq-eqb, ne_eqb, lt-ltb, le-ltb}
 use Rattle.standard.specs.Bytes.{be}
 use Rattle.standard.specs.Encode.{shortest}

@@ -1,11 +1,7 @@
 -- `put_wide` stores the low bytes of a number from the last to the first. Invariant: the bytes that are left, at their place, come to
-use Prim.Native.Nat.{◌≤◌}
-use mathlib.Core.Path.{◌≡◌, refl, ◌∙◌}
+use mathlib.Core.Path.{refl, ◌∙◌}
 use native.Mathlib.Omega.{arith}
-use borrow.Author.Rules.{rules}
-use lib.ListN.{length, length-set}
-use lib.Seq.{sets}
-use Rattle.standard.specs.Bytes.{be}
+use lib.ListN.{length-set}
 use Rattle.writer.proofs.Stores.{last_first, none_left}
 use Rattle.writer.proofs.put.put_wide.Goals as goal
 

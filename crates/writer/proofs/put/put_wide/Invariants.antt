@@ -1,12 +1,9 @@
 -- `put_wide` stores the low bytes of a number from the last to the first. Invariant: the bytes that are left, at their place, come to
 use Prim.Native.Nat.{◌≤◌}
-use mathlib.Core.Path.{◌≡◌, refl, ◌∙◌}
-use native.Mathlib.Omega.{arith}
-use borrow.Author.Rules.{rules}
-use lib.ListN.{length, length-set}
+use mathlib.Core.Path.{◌≡◌}
+use lib.ListN.{length}
 use lib.Seq.{sets}
 use Rattle.standard.specs.Bytes.{be}
-use Rattle.writer.proofs.Stores.{last_first, none_left}
 use Rattle.writer.proofs.put.put_wide.Given as goal
 
 abbrev pub invariant-loop-left : goal.invariant-loop-left

@@ -1,5 +1,4 @@
 -- `check_row` makes the checks in the order of the definition; each outcome is a law of proofs/Checks.antt.
-use borrow.Author.Rules.{rules}
 use Prim.Native.Nat.{◌+◌, ◌*◌}
 use mathlib.Core.Path.{◌≡◌, sym}
 use mathlib.Core.List.{◌∷◌}
@@ -9,7 +8,7 @@ use lib.ListN.{length-drop, drop, get_or}
 use Rattle.standard.specs.Kinds.{style_of, is_kind}
 use Rattle.standard.specs.Table.{allowed, ranged}
 use Rattle.writer.specs.InCode.{spot_is}
-use Rattle.writer.proofs.Checks.{not_true, not_false, row_words, check_missing, check_kind, check_deep, check_element, check_number, check_short, check_text, check_whole, good_part}
+use Rattle.writer.proofs.Checks.{row_words, check_missing, check_kind, check_deep, check_element, check_number, check_short, check_text, check_whole, good_part}
 use Rattle.writer.proofs.row.check_row.Goals as goal
 use Rattle.writer.proofs.row.check_row.Goals.{After-shared_slice_known-4-1, Else-not-is_allowed, Else-not-is_kind, Else-not-takes}
 

@@ -1,5 +1,4 @@
 -- `is_allowed` goes by the spot.
-use borrow.Author.Rules.{rules}
 use Rattle.standard.specs.Table.{allowed}
 use Rattle.writer.proofs.row.is_allowed.Goals as goal
 

@@ -1,5 +1,4 @@
 -- Only arrays tell what their children are.
-use borrow.Author.Rules.{rules}
 use Rattle.standard.specs.Kinds.{kind_in}
 use Rattle.standard.specs.Table.{naming, spot_in}
 use Rattle.writer.proofs.row.is_naming.Goals as goal

@@ -1,5 +1,4 @@
 -- 4 comes before 5.
-use borrow.Author.Rules.{rules}
 use Rattle.writer.proofs.row.outside.Goals as goal
 
 pub returns-then-is_naming : goal.returns-then-is_naming

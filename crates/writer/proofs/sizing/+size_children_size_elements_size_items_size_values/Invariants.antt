@@ -1,6 +1,6 @@
 -- `size_values` and `size_items` go over values and elements row by row, and call `size_children` and `size_elements` for what is in a row, which call them with a level less.
 -- Invariant of both loops: what is left from here comes to what was due at the start.
-use Rattle.std.proofs.Common.{ℕ, ◌+◌, ◌*◌}
+use Rattle.std.proofs.Common.{◌+◌, ◌*◌}
 use Rattle.standard.specs.Table.{any, like}
 use Rattle.writer.proofs.Sums.{Comes}
 use Rattle.writer.proofs.sizing.+size_children_size_elements_size_items_size_values.Given as goal

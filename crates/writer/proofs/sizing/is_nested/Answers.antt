@@ -4,7 +4,6 @@ use mathlib.Core.Path.{◌≡◌, sym, ap, ◌∙◌}
 use mathlib.Core.List.{◌∷◌}
 use mathlib.Core.Bool.{true}
 use native.Mathlib.Omega.{arith}
-use borrow.Author.Rules.{rules}
 use lib.ListN.{length, drop, get_or, length-drop}
 use Rattle.writer.proofs.Checks.{row_words}
 use Rattle.writer.proofs.Turns.{good, array_nests, open_nests, element_low, element_unlike, element_is}

@@ -1,5 +1,4 @@
 -- A described value has its code alone before its children.
-use borrow.Author.Rules.{rules}
 use borrow.Author.Tests.{eq-eqb, ne_eqb}
 use Rattle.writer.proofs.sizing.open_head.Goals as goal
 

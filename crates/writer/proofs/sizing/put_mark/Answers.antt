@@ -1,5 +1,4 @@
 -- `put_mark` stores a mark that fits; a mark of no bytes changes nothing.
-use borrow.Author.Rules.{rules}
 use native.Mathlib.Omega.{arith}
 use Rattle.standard.specs.Bytes.{be}
 use Rattle.writer.proofs.sizing.put_mark.Goals as goal

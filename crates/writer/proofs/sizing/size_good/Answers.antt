@@ -1,6 +1,5 @@
 -- A good row without children takes its head and its text.
 use native.Mathlib.Omega.{arith}
-use borrow.Author.Rules.{rules}
 use Rattle.writer.proofs.sizing.size_good.Goals as goal
 
 pub overflow_add-head_width : goal.overflow_add-head_width

@@ -1,5 +1,4 @@
 -- `size_letters` is for kinds that hold letters.
-use borrow.Author.Rules.{rules}
 use Rattle.writer.specs.Sizing.{letters_size}
 use Rattle.writer.proofs.sizing.size_letters.Goals as goal
 

@@ -2,7 +2,6 @@
 use mathlib.Core.Path.{sym, ap, ◌∙◌, subst}
 use mathlib.Core.List.{[]}
 use native.Mathlib.Omega.{arith}
-use borrow.Author.Rules.{rules}
 use Rattle.standard.specs.Table.{any}
 use Rattle.writer.specs.InCode.{checked_is, Styled}
 use Rattle.writer.specs.Sizing.{passed}

@@ -1,5 +1,4 @@
 -- `size_text` makes the checks of a text in the order of the definition.
-use borrow.Author.Rules.{rules}
 use borrow.Author.Tests.{lt-ltb, le-ltb}
 use lib.ListN.{length-drop}
 use Rattle.writer.proofs.Sizes.{text_long_lem, text_short_lem, text_bad, text_good}

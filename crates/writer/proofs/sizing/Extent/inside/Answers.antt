@@ -1,5 +1,4 @@
 -- `inside` is at the next row, with the place of its mark behind that of the open row.
-use borrow.Author.Rules.{rules}
 use native.Mathlib.Omega.{arith}
 use Rattle.writer.proofs.Sums.{few}
 use Rattle.writer.proofs.sizing.Extent.inside.Goals as goal
