@@ -1,8 +1,8 @@
--- Demand 2, of the code: what is written equals the definition, and the reader gives, for each well_formed value within the level limit in force, the table
+-- Demand 2, of the code: what is written equals the definition, and the reader gives, for each well-formed value within the level limit in force, the table
 -- that the definition gives.
 --
 -- The hypotheses are promises of public functions (see Demand1.antt) and, of values, only what the definitions say: `Valid` of Table.antt is a value that a table can
--- hold, `encode` of Encode.antt its bytes, `Formed` of Grammar.antt well_formed bytes of a value.
+-- hold, `encode` of Encode.antt its bytes, `Formed` of Grammar.antt well-formed bytes of a value.
 use Rattle.std.specs.Prelude.{ℕ, ◌*◌, ◌/◌, ◌≤◌, ◌≡◌, List, ◌++◌, T, length, take}
 use Rattle.std.proofs.Common.{sym, ap, ◌∙◌}
 use Rattle.standard.specs.Answer.{got}
@@ -40,7 +40,7 @@ pub record Demand2 : Type 0 where
       → wrote r ≡ laws.wrote_over (encode v) o
   -- and where writing succeeds, the table was that of such a value, and its bytes are in the output
   pub written : (l : ℕ) (w x o : List ℕ) (r : writer.Outcome) (n : ℕ) → WritePromise l w x o r → r.answer ≡ Length n → laws.Written l w x o (wrote r)
-  -- every well_formed value is read, where there is room, to its rows and its text, whatever stands behind it
+  -- every well-formed value is read, where there is room, to its rows and its text, whatever stands behind it
   pub reads : (l : ℕ) (v : Tree) (a z w x : List ℕ) (r : reader.Outcome) → ReadPromise l (a ++ z) w x r → T (in_force l) → Formed l v a → 2 * tall v ≤ length w → length (text v) ≤ length x
       → gave r ≡ laws.gave_over v (length a) w x
   -- and where reading succeeds, the bytes begin with those of such a value
@@ -48,7 +48,7 @@ pub record Demand2 : Type 0 where
   -- what was written is read back, within the same limit or a higher one, to the table that it was written from, whatever stands behind it
   pub back : (l k : ℕ) (w x o z u y : List ℕ) (r : writer.Outcome) (s : reader.Outcome) (n : ℕ) → l ≤ k → T (in_force k) → WritePromise l w x o r → r.answer ≡ Length n → ReadPromise k (take n r.out ++ z) u y s
       → length w ≤ length u → length x ≤ length y → gave s ≡ record { answer = got (record { length = n; rows = length w / 2; text = length x }); words = over w u; letters = over x y }
-  -- a well_formed value within the writer's limits can be written, and is read back to the same rows and text; among the limits is that each array tells its elements' kind
+  -- a well-formed value within the writer's limits can be written, and is read back to the same rows and text; among the limits is that each array tells its elements' kind
   pub again : (l : ℕ) (v : Tree) (a o z w x : List ℕ) (r : writer.Outcome) (s : reader.Outcome) → WritePromise l (rows v) (text v) o r → ReadPromise l (encode v ++ z) w x s
       → T (in_force l) → Bytes a → Formed l v a → Limited (rows v) → length (encode v) ≤ most → length (encode v) ≤ length o → 2 * tall v ≤ length w → length (text v) ≤ length x
       → (wrote r ≡ laws.wrote_over (encode v) o) × (gave s ≡ laws.gave_over v (length (encode v)) w x)

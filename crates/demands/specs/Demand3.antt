@@ -1,8 +1,8 @@
--- Demand 3, of the code: no written table's bytes begin another's. Of all bytes that arrive at most one beginning is well_formed; its length is reported
+-- Demand 3, of the code: no written table's bytes begin another's. Of all bytes that arrive at most one beginning is well-formed; its length is reported
 -- exactly when there is one, and what stands behind changes nothing.
 --
 -- The hypotheses are promises of public functions (see Demand1.antt); `Formed l` is the grammar within the limit l, and `Begins l b e` says that l is in force and
--- that the bytes b begin with those of a well_formed value, whose length, rows and text are e.
+-- that the bytes b begin with those of a well-formed value, whose length, rows and text are e.
 use Rattle.std.specs.Prelude.{ℕ, ◌≡◌, List, ◌++◌, take}
 use Rattle.std.proofs.Common.{sym, ap, ◌∙◌}
 use Rattle.standard.specs.Answer.{got}
@@ -30,7 +30,7 @@ pub record Demand3 : Type 0 where
   -- whatever limits they were written within
   pub apart : (l k : ℕ) (w x o u y q : List ℕ) (r s : writer.Outcome) (n m : ℕ) (z : List ℕ) → WritePromise l w x o r → WritePromise k u y q s → r.answer ≡ Length n → s.answer ≡ Length m
       → take m s.out ≡ take n r.out ++ z → (w ≡ u) × (x ≡ y)
-  -- of all bytes that arrive at most one beginning is well_formed, and it is the bytes of one value, whatever the limits
+  -- of all bytes that arrive at most one beginning is well-formed, and it is the bytes of one value, whatever the limits
   pub one : (l k : ℕ) (b a c y z : List ℕ) (v u : Tree) → b ≡ a ++ y → Formed l v a → b ≡ c ++ z → Formed k u c → (a ≡ c) × (v ≡ u)
   -- its length is reported exactly when there is one; reading reports no other
   pub reported : (l : ℕ) (b : List ℕ) (r : Measured) (e : Extent) → MeasurePromise l b r → r ≡ Fits e → Begins l b (extent_is e)

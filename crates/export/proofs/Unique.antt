@@ -16,13 +16,13 @@ use denote.Ref.{Bor}
 use Rattle.standard.specs.Outcomes as outcome
 use Rattle.standard.specs.Outcomes.{level_default}
 use Rattle.export.specs.Boundary.{Sizing, sizing, Writing, writing, Measuring, measuring, Reading, reading, Stepping, stepping}
-use Rattle.export.specs.contracts.afsungar_size_within as size-within
+use Rattle.export.specs.contracts.afsungar_size_within as size_within
 use Rattle.export.specs.contracts.afsungar_size as size
-use Rattle.export.specs.contracts.afsungar_write_within as write-within
+use Rattle.export.specs.contracts.afsungar_write_within as write_within
 use Rattle.export.specs.contracts.afsungar_write as write
-use Rattle.export.specs.contracts.afsungar_measure_within as measure-within
+use Rattle.export.specs.contracts.afsungar_measure_within as measure_within
 use Rattle.export.specs.contracts.afsungar_measure as measure
-use Rattle.export.specs.contracts.afsungar_read_within as read-within
+use Rattle.export.specs.contracts.afsungar_read_within as read_within
 use Rattle.export.specs.contracts.afsungar_read as read
 use Rattle.export.specs.contracts.afsungar_step_within as step_within
 use Rattle.export.specs.contracts.afsungar_step as step
@@ -45,7 +45,7 @@ StepPromise l b i o = stepping (outcome.step l b i) ≡ o
 -- a reference at entry and at exit: p and q the place, n and m the length, i and j the rows, u and v the bytes of text
 module _ {M : Type 1} {𝓤 : Ura M} (𝓛 : Logic 𝓤) (mem : Memory → SProp 𝓤) (run : Routine → Fun 𝓤) where
   pub size_within_promise : (κs : Lfts 4) (l : ℕ) (w x : Bor (List ℕ)) (p n q m : MutBor ℕ) (r : ℕ)
-      → size-within.ensures-1 𝓛 κs mem run l w x p n (record { entry = l; exit = l }) (record { entry = w; exit = w }) (record { entry = x; exit = x }) (record { entry = p; exit = q }) (record { entry = n; exit = m }) r
+      → size_within.ensures-1 𝓛 κs mem run l w x p n (record { entry = l; exit = l }) (record { entry = w; exit = w }) (record { entry = x; exit = x }) (record { entry = p; exit = q }) (record { entry = n; exit = m }) r
       ≡ fact 𝓤 (SizePromise l w.now x.now (record { code = r; place = q.now; length = m.now }))
   size_within_promise κs l w x p n q m r = refl
 
@@ -55,7 +55,7 @@ module _ {M : Type 1} {𝓤 : Ura M} (𝓛 : Logic 𝓤) (mem : Memory → SProp
   size_promise κs w x p n q m r = refl
 
   pub write_within_promise : (κs : Lfts 5) (l : ℕ) (w x : Bor (List ℕ)) (b d : MutBor (List ℕ)) (p n q m : MutBor ℕ) (r : ℕ)
-      → write-within.ensures-1 𝓛 κs mem run l w x b p n (record { entry = l; exit = l }) (record { entry = w; exit = w }) (record { entry = x; exit = x }) (record { entry = b; exit = d }) (record { entry = p; exit = q }) (record { entry = n; exit = m }) r
+      → write_within.ensures-1 𝓛 κs mem run l w x b p n (record { entry = l; exit = l }) (record { entry = w; exit = w }) (record { entry = x; exit = x }) (record { entry = b; exit = d }) (record { entry = p; exit = q }) (record { entry = n; exit = m }) r
       ≡ fact 𝓤 (WritePromise l w.now x.now b.now (record { answer = record { code = r; place = q.now; length = m.now }; out = d.now }))
   write_within_promise κs l w x b d p n q m r = refl
 
@@ -65,7 +65,7 @@ module _ {M : Type 1} {𝓤 : Ura M} (𝓛 : Logic 𝓤) (mem : Memory → SProp
   write_promise κs w x b d p n q m r = refl
 
   pub measure_within_promise : (κs : Lfts 5) (l : ℕ) (b : Bor (List ℕ)) (p n i u q m j v : MutBor ℕ) (r : ℕ)
-      → measure-within.ensures-1 𝓛 κs mem run l b p n i u (record { entry = l; exit = l }) (record { entry = b; exit = b }) (record { entry = p; exit = q }) (record { entry = n; exit = m }) (record { entry = i; exit = j }) (record { entry = u; exit = v }) r
+      → measure_within.ensures-1 𝓛 κs mem run l b p n i u (record { entry = l; exit = l }) (record { entry = b; exit = b }) (record { entry = p; exit = q }) (record { entry = n; exit = m }) (record { entry = i; exit = j }) (record { entry = u; exit = v }) r
       ≡ fact 𝓤 (MeasurePromise l b.now (record { code = r; place = q.now; length = m.now; rows = j.now; text = v.now }))
   measure_within_promise κs l b p n i u q m j v r = refl
 
@@ -75,7 +75,7 @@ module _ {M : Type 1} {𝓤 : Ura M} (𝓛 : Logic 𝓤) (mem : Memory → SProp
   measure_promise κs b p n i u q m j v r = refl
 
   pub read_within_promise : (κs : Lfts 7) (l : ℕ) (b : Bor (List ℕ)) (w x d y : MutBor (List ℕ)) (p n i u q m j v : MutBor ℕ) (r : ℕ)
-      → read-within.ensures-1 𝓛 κs mem run l b w x p n i u (record { entry = l; exit = l }) (record { entry = b; exit = b }) (record { entry = w; exit = d }) (record { entry = x; exit = y })
+      → read_within.ensures-1 𝓛 κs mem run l b w x p n i u (record { entry = l; exit = l }) (record { entry = b; exit = b }) (record { entry = w; exit = d }) (record { entry = x; exit = y })
       (record { entry = p; exit = q }) (record { entry = n; exit = m }) (record { entry = i; exit = j }) (record { entry = u; exit = v }) r
       ≡ fact 𝓤 (ReadPromise l b.now w.now x.now (record { answer = record { code = r; place = q.now; length = m.now; rows = j.now; text = v.now }; words = d.now; letters = y.now }))
   read_within_promise κs l b w x d y p n i u q m j v r = refl

@@ -1,4 +1,4 @@
--- Complete: well_formed bytes are read, whatever stands behind them.
+-- Complete: well-formed bytes are read, whatever stands behind them.
 use Prim.Native.Nat.{ℕ, zero, suc, ◌+◌, ◌-◌, ◌<◌}
 use Rattle.std.specs.Prelude.{◌≡◌, List, [], ◌∷◌, ◌++◌, true, T, leb}
 use Rattle.std.proofs.Math.Path.{refl}

@@ -8,7 +8,7 @@
 -- In which case each refusal comes is said by the definitions, check by check, in the order of docs/FORMAT.md, 5.2 and 5.3, and the outcomes are made of
 -- nothing else: 15 by `in_force`, in front of all else in `bytes_of`, `arrived` and `step` of Outcomes.antt; 1 to 6 by `table` of Table.antt (odd words, then `tree` and
 -- `row` for each row, then `spent` for what is left); 7 by `bytes_of` and 8 by `write`; 3, 4 and 9 to 12 by `front` of Read.antt (`coded`, `behind`, `fields`, `items`,
--- `leaf`, `done`); 13 and 14 by `read`. A step of the walker refuses as measuring does, at its own place. That such a refusal comes exactly where no value is well_formed, is `whenever` and `reported` of Demand3.antt.
+-- `leaf`, `done`); 13 and 14 by `read`. A step of the walker refuses as measuring does, at its own place. That such a refusal comes exactly where no value is well-formed, is `whenever` and `reported` of Demand3.antt.
 use Rattle.std.specs.Prelude.{ℕ, ◌*◌, ◌-◌, ◌/◌, ◌≤◌, ◌<◌, ◌≡◌, refl, List, [], ◌∷◌, Bool, true, false, not, ◌||◌, T, eqb, leb, length, drop}
 use Rattle.std.proofs.Common.{sym, ap, ◌∙◌, arith, leb→le, length-append, length-drop, drop_of_length-le, drop_at, drop-cons}
 use Rattle.standard.specs.Answer.{Answer, got, refuse, Place, at, ◌>>=◌, ◌>>◌, need, output_short, rows_short, text_short, limit_outside}

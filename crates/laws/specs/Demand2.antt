@@ -1,4 +1,4 @@
--- Demand 2. What is written equals the definition, and the reader gives, for each well_formed value within the level limit in force, the table of that value.
+-- Demand 2. What is written equals the definition, and the reader gives, for each well-formed value within the level limit in force, the table of that value.
 --
 -- The bytes of a value are `encode` of Encode.antt. A table is the rows and the text of a valid value (`Valid` of Table.antt). Well-formed bytes of a
 -- value are `Formed` of Grammar.antt, where no reader is spoken of. What the entry points give is in Outcomes.antt.
@@ -57,7 +57,7 @@ pub record Demand2 : Type 0 where
   pub writes : (l : ℕ) (v : Tree) (o : List ℕ) → T (in_force l) → Valid l any v → length (encode v) ≤ most → length (encode v) ≤ length o → write l (rows v) (text v) o ≡ wrote_over (encode v) o
   -- and where writing succeeds, the table was that of such a value
   pub written : (l : ℕ) (w x o : List ℕ) (n : ℕ) → (write l w x o).answer ≡ got n → Written l w x o (write l w x o)
-  -- every well_formed value is read, where there is room, to its rows and its text, whatever stands behind it
+  -- every well-formed value is read, where there is room, to its rows and its text, whatever stands behind it
   pub reads : (l : ℕ) (v : Tree) (a z w x : List ℕ) → T (in_force l) → Formed l v a → 2 * tall v ≤ length w → length (text v) ≤ length x → read l (a ++ z) w x ≡ gave_over v (length a) w x
   -- and where reading succeeds, the bytes begin with those of such a value
   pub given : (l : ℕ) (r w x : List ℕ) (e : Extent) → (read l r w x).answer ≡ got e → Given l r w x (read l r w x)

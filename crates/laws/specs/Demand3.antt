@@ -1,4 +1,4 @@
--- Demand 3. No written table's bytes begin another's. Of all bytes that arrive at most one beginning is well_formed; its length is reported exactly when
+-- Demand 3. No written table's bytes begin another's. Of all bytes that arrive at most one beginning is well-formed; its length is reported exactly when
 -- there is one, and what stands behind changes nothing. Well-formed is read at the level limit in force.
 use Rattle.std.specs.Prelude.{ℕ, ◌+◌, ◌-◌, ◌≡◌, refl, List, ◌++◌, Bool, true, false, T, leb, length, take, drop}
 use Rattle.std.proofs.Common.{sym, ap, ◌∙◌, arith, length-append, take_at}
@@ -12,7 +12,7 @@ use Rattle.laws.specs.Levels.{formed_more, bytes_most}
 use Rattle.laws.specs.Demand1.{roomed}
 use Rattle.laws.specs.Demand2.{demand2}
 
--- bytes that begin with those of a well_formed value, which has that extent: its length, its rows and its text
+-- bytes that begin with those of a well-formed value, which has that extent: its length, its rows and its text
 pub record Begins (l : ℕ) (bytes : List ℕ) (e : Extent) : Type 0 where
   pub limit : T (in_force l)
   pub tree : Tree
@@ -26,7 +26,7 @@ pub record Demand3 : Type 0 where
   -- no written table's bytes begin another's: if one's do, the two are the same rows and the same text, whatever limits they were written within
   pub apart : (l k : ℕ) (w x o u y q : List ℕ) (n m : ℕ) (z : List ℕ) → (write l w x o).answer ≡ got n → (write k u y q).answer ≡ got m
       → take m (write k u y q).out ≡ take n (write l w x o).out ++ z → (w ≡ u) × (x ≡ y)
-  -- of all bytes that arrive at most one beginning is well_formed, and it is the bytes of one value, whatever the limits
+  -- of all bytes that arrive at most one beginning is well-formed, and it is the bytes of one value, whatever the limits
   pub one : (l k : ℕ) (r a b y z : List ℕ) (v u : Tree) → r ≡ a ++ y → Formed l v a → r ≡ b ++ z → Formed k u b → (a ≡ b) × (v ≡ u)
   -- its length is reported exactly when there is one; reading reports no other
   pub reported : (l : ℕ) (r : List ℕ) (e : Extent) → measure l r ≡ got e → Begins l r e
@@ -76,7 +76,7 @@ measured_of l r e (got (v, z)) i f =
 measures : (l : ℕ) (r : List ℕ) (e : Extent) → measure l r ≡ got e → Begins l r e
 measures l r e = measured_of l r e (arrived l r) refl
 
--- a well_formed value is measured, whatever stands behind it
+-- a well-formed value is measured, whatever stands behind it
 pub formed_measured : (l : ℕ) (v : Tree) (a z : List ℕ) → T (in_force l) → Formed l v a → measure l (a ++ z) ≡ got (extent v (length a))
 formed_measured l v a z t h = measured l (a ++ z) z v (arrived_complete l v a z t h) ∙ ap (λ (n : ℕ). got (extent v n)) (front_long a z (a ++ z) refl)
 

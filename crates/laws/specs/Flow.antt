@@ -1,4 +1,4 @@
--- The flat reading of well_formed bytes gives the rows and the text of their value, whatever stands behind them; and it keeps no more runs than the value may
+-- The flat reading of well-formed bytes gives the rows and the text of their value, whatever stands behind them; and it keeps no more runs than the value may
 -- take levels: a value puts one run onto the stack at most, and its children have one level less.
 use Rattle.std.specs.Prelude.{ℕ, zero, suc, ◌+◌, ◌≤◌, ◌<◌, ◌≡◌, length}
 use Rattle.std.proofs.Common.{arith, add-zero, add_assoc, ◌∙◌, lt-ltb}

@@ -1,4 +1,4 @@
--- The writer's limits: a well_formed value is one that a table can hold exactly where it is within them.
+-- The writer's limits: a well-formed value is one that a table can hold exactly where it is within them.
 use Rattle.std.specs.Prelude.{ℕ, zero, suc, ◌%◌, ◌^◌, ◌≤◌, ◌<◌, ◌≡◌, Bool, true, not, ◌&&◌, T, eqb, leb, ltb, length}
 use Rattle.std.proofs.Math.Path.{refl, sym}
 use Rattle.std.proofs.Common.{ap, ◌∙◌, arith, lt_of_lt_of_le, eqb→eq, leb→le, le→leb, lt→ltb, lit<, ne_eqb}
@@ -220,7 +220,7 @@ payload_valid (suc l) c v a h b m d t =
     shape_fit l (payload_valid l) (λ v. Limited (rows v) → Valid (suc l) d v) (suited c) h b
     (λ n x cs f i r m. (record { known = f.0; fits = t; in_range = f.1 m.0; long = f.2; good = i; full = f.3 }, r m.1)) m
 
--- a well_formed value within the limits is one that a table can hold
+-- a well-formed value within the limits is one that a table can hold
 pub valid_again : (l : ℕ) (v : Tree) (bs : List ℕ) → Bytes bs → Formed l v bs → Limited (rows v) → Valid l any v
 valid_again l v bs b f m = coded_valid l (payload_valid l) v bs f.form b m
 

@@ -234,7 +234,7 @@ gives_one_table l u f p t h =
     let e : ◌≡◌ {A = List ℕ} (0x40 ∷ 0 ∷ []) (0x70 ∷ 0 ∷ []) = i 0x40 0x40 (lit< tt) (null_read l u) ∙ sym (i 0x43 0x70 (lit< tt) (zero_read l u)) in
     let j : ◌≡◌ {A = ℕ} 0x40 0x70 = cc in omega (arith, j)
 
--- A reader that reports a length, rows or text that it made up: of no well_formed beginning. It may do so in measuring or in reading
+-- A reader that reports a length, rows or text that it made up: of no well-formed beginning. It may do so in measuring or in reading
 
 pub record Invents (limit : ℕ) (answer : Answer Extent) (bytes : List ℕ) : Type 0 where
   pub lent : Lent 8 bytes

@@ -1,4 +1,4 @@
--- Sound: what is read is well_formed.
+-- Sound: what is read is well-formed.
 use Prim.Native.Nat.{ℕ, zero, suc, ◌+◌, ◌-◌}
 use Rattle.std.specs.Prelude.{◌≡◌, refl, leb, length}
 use Rattle.std.proofs.Common.{sym, arith, leb→le, length-append, take-append-drop, length-take-le}

@@ -1,4 +1,4 @@
--- At most one front of a run of bytes is well_formed, and reading finds it.
+-- At most one front of a run of bytes is well-formed, and reading finds it.
 use Rattle.std.specs.Prelude.{ℕ, ◌≡◌, List, ◌++◌, length, take, T}
 use Rattle.std.proofs.Common.{sym, ap, ◌∙◌, arith, length-append, take_at}
 use Rattle.std.proofs.Math.Seq.{take-append_seam}
@@ -12,7 +12,7 @@ use Rattle.laws.specs.Answers.{Holds, yes', no', on, weaken, out, need_holds, Le
 use Rattle.laws.specs.Complete.{complete}
 use Rattle.laws.specs.Sound.{sound}
 
--- well_formed bytes are read, whatever stands behind them
+-- well-formed bytes are read, whatever stands behind them
 pub front_complete : (l : ℕ) (v : Tree) (a rest : List ℕ) → Formed l v a → front l (a ++ rest) ≡ got (v, rest)
 unfolding front settled
 front_complete l v a rest h = ap settled (complete l v a h.form 0 rest)
@@ -22,12 +22,12 @@ unfolding settled
 settled_holds (yes' h) = yes' h
 settled_holds no' = no'
 
--- what is read is well_formed
+-- what is read is well-formed
 pub front_sound : (l : ℕ) (r : List ℕ) → Holds (λ x. Left (Formed l x.0) r x.1) (front l r)
 unfolding front
 front_sound l r = settled_holds (weaken (sound l 0 r) (λ x h. record { front = h.front; split = h.split; holds = record { form = h.holds } }))
 
--- a value is read exactly where a front is well_formed
+-- a value is read exactly where a front is well-formed
 pub front_reads : (l : ℕ) (r s : List ℕ) (v : Tree) → front l r ≡ got (v, s) → Left (Formed l v) r s
 front_reads l r s v e = out (rw e at (front_sound l r))
 
@@ -51,7 +51,7 @@ same_front a b r s z e =
     let n : length a ≡ length b = omega (arith, simp length-append at (ap length e), ap length z) in
     sym (take-append_seam a r) ∙ ap (take (length a)) e ∙ take_at b s (length a) (sym n)
 
--- two well_formed fronts of one run of bytes are the same, and have the same tree
+-- two well-formed fronts of one run of bytes are the same, and have the same tree
 pub unique : (l : ℕ) (v w : Tree) (a b r s : List ℕ) → Formed l v a → Formed l w b → a ++ r ≡ b ++ s → (v ≡ w) × (r ≡ s) × (a ≡ b)
 unique l v w a b r s f g e =
     let x : front l (a ++ r) ≡ got (v, r) = front_complete l v a r f in

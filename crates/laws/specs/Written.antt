@@ -1,4 +1,4 @@
--- What is written is well_formed.
+-- What is written is well-formed.
 use Rattle.std.specs.Prelude.{ℕ, zero, suc, ◌+◌, ◌-◌, ◌%◌, ◌^◌, ◌≤◌, ◌<◌, ◌≡◌, refl, List, [], ◌∷◌, ◌++◌, Bool, true, false, ◌&&◌, ◌||◌, T, eqb, leb, ltb, length}
 use Rattle.std.proofs.Common.{sym, ap, ◌∙◌, subst, arith, eqb→eq, ltb→lt, nltb→le, leb→le, lit<, length-append}
 use Rattle.standard.specs.Choose.{if, lookup}
@@ -345,6 +345,6 @@ mutual
       let r = payloads_form vs k p l c a.1 h.1 (omega arith) in
       (more' i.0 r.0, omega (arith, i.1, r.1))
 
--- every value of the table that is not too long is written to well_formed bytes
+-- every value of the table that is not too long is written to well-formed bytes
 pub well_formed : (l : ℕ) (v : Tree) → Valid l any v → length (encode v) ≤ most → Formed l v (encode v)
 well_formed l v h m = record { form = encode_form v l any h m }

@@ -1,7 +1,7 @@
 // Reads the first value of standard input, and prints its rows (docs/FORMAT.md, 8).
 #![tactic(auto)]
 
-ghost use Rattle.std.specs.Prelude.{◌≡◌, length, IfOk};
+ghost use Rattle.std.specs.Prelude.{◌≡◌, length, IfOk, OnErr};
 ghost use Rattle.io.specs.Counts.{IsPrefixLen};
 ghost use Rattle.standard.specs.Outcomes.{level_most, over};
 ghost use Rattle.standard.specs.Listing.{listing};
@@ -46,7 +46,8 @@ fn list(bytes: &[u8], words: &mut [u64], text: &mut [u8], out: &mut [u8]) -> usi
 
 // Reads until the buffer is full or the input ends, and gives how many bytes stand at the buffer's front.
 fn read_full<R: Read>(input: &mut R, buffer: &mut [u8]) -> io::Result<usize>
-    ensures { IfOk result (λ n. IsPrefixLen n buffer.new) }
+    ensures ok { IfOk result (λ n. IsPrefixLen n buffer.new) }
+    ensures err { OnErr result (length buffer.new ≡ length buffer.old) }
 {
     let mut done: usize = 0;
     while done < buffer.len() {

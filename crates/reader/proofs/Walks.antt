@@ -103,7 +103,10 @@ module _ (w x y : Walker) (r s : Next) (a : NextOf w x r) (b : NextOf w y s) whe
   pub one_place : r.value.ref_ptr ≡ s.value.ref_ptr
   one_place = a.value.place ∙ sym b.value.place
 
-  -- so the two results are the same to the machine. In the logic they may differ in one thing, which no program sees: the ghost name of the value's borrow
+  pub one_next : r ≡ s
+  one_next i = record { answer = one_answer i; value = record { ref_ptr = one_place i; now = one_value i } }
+
+  -- and to the machine
   pub one_result : S'.lowered r ≡ S'.lowered s
   one_result i = vstruct (vcons (E'.lowered (one_answer i)) (vcons (slice_val (one_place i) (length (one_value i))) vnil))
 

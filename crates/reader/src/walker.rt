@@ -95,7 +95,7 @@ pub struct Walker<'a> {
 }
 
 // What the walker hands out: the answer, and the bytes of the value, none where there is no value.
-// The bytes stand beside the answer, for an enum cannot hold a slice.
+// The bytes stand beside the answer.
 #[derive(Clone, Copy)]
 pub struct Next<'a> {
     pub answer: Step,

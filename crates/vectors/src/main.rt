@@ -1,5 +1,5 @@
 // Replays the stored cases of data/ and compares the answers. It prints each case that differs, and for each file how many cases it has
-// and how many answers were right. A program has no exit status of its own: what it prints is held to the file `stdout`.
+// and how many answers were right. Its exit status says nothing: what it prints is held to the file `stdout`.
 #![tactic(auto)]
 
 ghost use Rattle.std.specs.Prelude.{◌+◌, ◌^◌, ◌<◌, ◌≤◌, length};
