@@ -118,8 +118,17 @@ fn made() -> Outcome<PathBuf> {
         ));
     }
     let script = root.join("compare/native-lib");
-    for path in [&root.join("crates"), &root.join("crates.txt"), &script] {
+    for path in [&root.join("crates.txt"), &script] {
         println!("cargo:rerun-if-changed={}", path.display());
+    }
+    // Of each crate all but out/, which every check of the prover changes.
+    for folder in fs::read_dir(root.join("crates"))? {
+        for part in fs::read_dir(folder?.path())? {
+            let part = part?;
+            if part.file_name() != "out" {
+                println!("cargo:rerun-if-changed={}", part.path().display());
+            }
+        }
     }
     run(Command::new(script).args(["--for", &processor, "export"]).arg(&out).current_dir(root))?;
     Ok(out)
