@@ -166,6 +166,7 @@ pub fn ascii_fault(text: &[u8]) -> Fault
 }
 
 // The first fault of a row's text: strings are UTF-8, symbols ASCII, and all other text is any bytes.
+#[tactic(auto, unfolding(standard::specs::Kinds::flaw))]
 pub fn flaw_of(kind: u64, text: &[u8]) -> Fault
     ensures { fault_is result ≡ flaw kind text.now }
 {
@@ -190,6 +191,7 @@ fn lesser(a: usize, b: usize) -> usize
 // Of so many bytes from `start` on, which are a row's text of that kind, how many are good: all, or those before the first fault.
 // Where the text has fewer bytes there, it is of those.
 // 16 bytes of ASCII are good for every kind: where they stand there, a short text needs no look at its own end.
+#[tactic(auto, using(crate::proofs::Parts::block_good))]
 pub fn good_length(kind: u64, text: &[u8], start: usize, count: usize) -> usize
     ensures { result ≡ good_length kind (take count (drop start text.now)) }
 {

@@ -4,9 +4,6 @@ use native.Mathlib.Omega.{arith}
 use Rattle.text.proofs.Parts.{part_is, part_length, flawless_good, fault_good, past_good, block_good}
 use Rattle.text.proofs.good_length.Goals as goal
 
-pub returns-then-ascii_block : goal.returns-then-ascii_block
-returns-then-ascii_block c = sym (block_good _ _ 16 _ _ c.if-count-le16.true c.ascii_block.ensures c.if-ascii_block.true)
-
 pub returns-then-text-start : goal.returns-then-text-start
 returns-then-text-start c = let a = c.args in sym (past_good _ a.text.now a.start a.count c.if-text-start.true)
 

@@ -18,7 +18,7 @@ words : (c : After-shared_slice_known-4-1) →
     drop (2 * a.row) a.words.now ≡ get_or a.words.now (2 * a.row) 0 ∷ get_or a.words.now (2 * a.row + 1) 0 ∷ drop (2 * a.row + 2) a.words.now
 words c =
     let a = c.args in
-    row_words a.words.now a.row (omega (arith, c.if-words-k-lt2.false, c.requires.0))
+    row_words a.words.now a.row (omega (arith, c.requires.0))
 
 -- what a check that was passed says of the row
 known : (c : Else-not-is_kind) → let a = c.args in is_kind (style_of (get_or a.words.now (2 * a.row) 0)) ≡ true
