@@ -1,4 +1,4 @@
--- `text::ascii_block` meets its contract. The invariant: the highest of the first i bytes is ASCII just where i bytes of ASCII stand there.
+-- `text::ascii_block` meets its contract.
 use mathlib.Core.Path.{◌≡◌, sym, ◌∙◌}
 use native.Mathlib.Omega.{arith}
 use lib.Dec.{leb-zero, leb-suc-suc}

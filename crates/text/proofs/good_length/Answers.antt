@@ -1,7 +1,7 @@
 -- `good_length` finds the bytes before the part's fault; where a block of ASCII holds it, all are good.
 use mathlib.Core.Path.{sym, ◌∙◌}
 use native.Mathlib.Omega.{arith}
-use Rattle.text.proofs.Parts.{part_is, part_length, flawless_good, fault_good, past_good, block_good}
+use Rattle.text.proofs.Parts.{part_is, part_length, flawless_good, fault_good, past_good}
 use Rattle.text.proofs.good_length.Goals as goal
 
 pub returns-then-text-start : goal.returns-then-text-start

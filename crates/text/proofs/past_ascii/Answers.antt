@@ -1,4 +1,4 @@
--- `text::past_ascii` meets its contract. The invariant: what is left of the ASCII bytes ends where those from the start do.
+-- `text::past_ascii` meets its contract.
 use mathlib.Core.Path.{◌∙◌}
 use native.Mathlib.Omega.{arith}
 use Rattle.text.proofs.Ascii.{run_within, run_end, run_some, run_none}

@@ -1,4 +1,4 @@
--- `text::utf8_fault` meets its contract. The invariant: the first fault of what is left is the first fault of the text.
+-- `text::utf8_fault` meets its contract.
 use mathlib.Core.Path.{sym, ◌∙◌}
 use native.Mathlib.Omega.{arith}
 use Rattle.standard.specs.Text.{utf8}

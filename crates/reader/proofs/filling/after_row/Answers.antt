@@ -13,7 +13,6 @@ unfolding push
 returns-then-left-eq0 c = (c.requires.2, rw c.if-left-eq0.true)
 
 pub returns : goal.returns
-unfolding push
 returns c =
     let a = c.args in
     (keeps_more a.lefts.now a.codes.now a.due.kept (a.due.left - 1) _ c.requires.2 c.requires.1 c.if-left-eq0.false, rw (kept_more a.lefts.now a.codes.now a.due.kept (a.due.left - 1) a.due.code c.requires.2 c.requires.1))

@@ -34,37 +34,28 @@ unfolding sure
 array_row-requires c = let t = here (goal.at.array_row-requires c).After-entry_of-entry _ c.in-Array.is in (t.fit, c.requires.0, t.lands)
 
 pub returns-in-Unknown : goal.returns-in-Unknown
-unfolding sure
 returns-in-Unknown c = absurd (unknown_stuck _ _ (here (goal.at.returns-in-Unknown c).After-entry_of-entry _ c.in-Unknown.is).lands)
 
 pub returns-in-Described : goal.returns-in-Described
-unfolding sure
 returns-in-Described c = rw c.parent.ensures ((here (goal.at.returns-in-Described c).After-entry_of-entry _ c.in-Described.is).back _ (described_row c.args.bytes.now c.entry_of-entry.result.0 c.args.at c.requires.0))
 
 pub returns-in-Constant : goal.returns-in-Constant
-unfolding sure
 returns-in-Constant c = rw c.leaf-in-Constant.ensures ((here (goal.at.returns-in-Constant c).After-entry_of-entry _ c.in-Constant.is).back _ (constant_row c.args.bytes.now c.entry_of-entry.result.0 c.args.at c.requires.0 c.in-Constant.number))
 
 pub returns-in-Whole : goal.returns-in-Whole
-unfolding sure
 returns-in-Whole c = (here (goal.at.returns-in-Whole c).After-entry_of-entry _ c.in-Whole.is).back _ c.whole_row.ensures
 
 pub returns-in-Small : goal.returns-in-Small
-unfolding sure
 returns-in-Small c = (here (goal.at.returns-in-Small c).After-entry_of-entry _ c.in-Small.is).back _ c.small_row.ensures
 
 pub returns-in-Raw : goal.returns-in-Raw
-unfolding sure
 returns-in-Raw c = let t = here (goal.at.returns-in-Raw c).After-entry_of-entry _ c.in-Raw.is in rw c.leaf-in-Raw.ensures (t.back _ (raw_row c.args.bytes.now c.entry_of-entry.result.0 c.args.at c.requires.0 c.in-Raw.width t.lands))
 
 pub returns-in-Sized : goal.returns-in-Sized
-unfolding sure
 returns-in-Sized c = (here (goal.at.returns-in-Sized c).After-entry_of-entry _ c.in-Sized.is).back _ c.sized_row.ensures
 
 pub returns-in-Compound : goal.returns-in-Compound
-unfolding sure
 returns-in-Compound c = (here (goal.at.returns-in-Compound c).After-entry_of-entry _ c.in-Compound.is).back _ c.compound_row.ensures
 
 pub returns-in-Array : goal.returns-in-Array
-unfolding sure
 returns-in-Array c = (here (goal.at.returns-in-Array c).After-entry_of-entry _ c.in-Array.is).back _ c.array_row.ensures

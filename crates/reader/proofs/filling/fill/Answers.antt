@@ -1,4 +1,4 @@
--- `fill` takes row after row. Invariant: what is left from here comes to what was due at the start (`Going`).
+-- `fill` takes row after row.
 use mathlib.Core.Path.{refl, ◌∙◌}
 use native.Mathlib.Omega.{arith}
 use lib.ListN.{length-set}

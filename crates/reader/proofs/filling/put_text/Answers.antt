@@ -1,4 +1,4 @@
--- `put_text` copies from the first byte on. Invariant: what is left of the bytes, at its place, comes to what was due at the start.
+-- `put_text` copies from the first byte on.
 use mathlib.Core.Path.{refl, ◌∙◌}
 use native.Mathlib.Omega.{arith}
 use lib.ListN.{length-set}

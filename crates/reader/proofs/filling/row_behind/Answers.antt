@@ -77,7 +77,6 @@ unfolding lookup codes entry_of
 compound_row-requires-in-209 c = (tt, c.requires.0, rw c.in-209.is at c.requires.1)
 
 pub entry_row-requires : goal.entry_row-requires
-unfolding lookup codes entry_of
 entry_row-requires c = c.requires
 
 pub returns-in-0 : goal.returns-in-0
@@ -177,5 +176,4 @@ unfolding lookup codes entry_of
 returns-in-209 c = rw c.in-209.is c.compound_row-in-209.ensures
 
 pub returns-in_default : goal.returns-in_default
-unfolding lookup codes entry_of
 returns-in_default c = c.entry_row.ensures

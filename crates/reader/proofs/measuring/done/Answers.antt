@@ -5,7 +5,6 @@ use Rattle.reader.specs.Measuring.{closed}
 use Rattle.reader.proofs.measuring.done.Goals as goal
 
 pub overflow_add-result : goal.overflow_add-result
-unfolding closed
 overflow_add-result c = omega (arith, rw c.in-Fits.is at c.requires)
 
 pub returns-then-e-room : goal.returns-then-e-room

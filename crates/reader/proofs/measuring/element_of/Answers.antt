@@ -17,7 +17,6 @@ unfolding element_of codes.is_code codes.element codes.filled
 returns-in-Constant c = rw (entry_layout _ _ _ c.entry_of-e.ensures c.in-Constant.is)
 
 pub returns-in-Whole : goal.returns-in-Whole
-unfolding element_of codes.is_code codes.element codes.filled
 returns-in-Whole c = rw (entry_layout _ _ _ c.entry_of-e.ensures c.in-Whole.is) c.filled.ensures
 
 pub returns-in-Small : goal.returns-in-Small

@@ -13,7 +13,6 @@ unfolding sure fair
 narrow_at-requires c = (⊎_elim (λ e. and_right (usual c.args.width) _ (rw e at c.requires.0)) (λ e. and_right (usual c.args.width) _ (rw e at c.requires.0)) c.in-86.is, omega (arith, c.requires.1))
 
 pub returns-in-86 : goal.returns-in-86
-unfolding sure fair
 returns-in-86 c = c.is_fair.ensures ∙ ap (fair c.args.kind) c.narrow_at.ensures.0
 
 pub returns-in_default : goal.returns-in_default

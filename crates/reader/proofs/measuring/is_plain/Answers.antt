@@ -12,5 +12,4 @@ unfolding plain_code
 returns-then-code-plain_below c = λ e. plain_code_lem c.args.code c.ranges.code.fits (lt-ltb _ _ (rw c.plain_below.ensures at c.if-code-plain_below.true))
 
 pub returns : goal.returns
-unfolding plain_code
 returns c = λ e. let z : ◌≡◌ {A = ℕ} 0 1 = cc in absurd (omega arith)

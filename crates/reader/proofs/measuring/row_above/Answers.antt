@@ -4,7 +4,6 @@ use Rattle.reader.specs.Measuring.{above}
 use Rattle.reader.proofs.measuring.row_above.Goals as goal
 
 pub overflow_add-result : goal.overflow_add-result
-unfolding above
 overflow_add-result c = omega (arith, rw c.in-Fits.is at c.requires)
 
 pub returns-in-Fits : goal.returns-in-Fits

@@ -10,17 +10,13 @@ unfolding spell
 returns-then-width-eq0 c = rw c.if-width-eq0.true
 
 pub returns-then-width-eq2 : goal.returns-then-width-eq2
-unfolding spell
 returns-then-width-eq2 c = rw c.if-width-eq2.true c.two_at.ensures
 
 pub returns-then-width-eq8 : goal.returns-then-width-eq8
-unfolding spell
 returns-then-width-eq8 c = rw (c.four_at.ensures.0, c.four_at-then-width-eq8.ensures.0, c.if-width-eq8.true) (halves c.args.bytes.now c.args.at 4 4 (omega (arith, c.requires.1)))
 
 pub narrow_at-requires : goal.narrow_at-requires
-unfolding spell
 narrow_at-requires c = (usual_narrow c.args.width c.requires.0 c.if-width-eq0.false c.if-width-eq2.false c.if-width-eq8.false, c.requires.1)
 
 pub returns : goal.returns
-unfolding spell
 returns c = c.narrow_at.ensures.0

@@ -9,15 +9,12 @@ use Rattle.reader.proofs.Stepping.{steps, ends_within}
 use Rattle.reader.proofs.walker.step_within.Goals as goal
 
 pub returns-then-not-is_in_force : goal.returns-then-not-is_in_force
-unfolding stepped
 returns-then-not-is_in_force c = ap stepped_is c.stay.ensures ∙ sym (step_outside _ _ _ (false_T _ (sym c.is_in_force.ensures ∙ c.if-not-is_in_force.true)))
 
 pub returns-then-bytes-at : goal.returns-then-bytes-at
-unfolding stepped
 returns-then-bytes-at c = ap stepped_is c.stay-then-bytes-at.ensures ∙ sym (step_end _ _ _ (true_T _ (sym c.is_in_force.ensures ∙ c.if-not-is_in_force.false)) c.if-bytes-at.true)
 
 pub overflow_add-end : goal.overflow_add-end
-unfolding stepped
 overflow_add-end c = let a = c.args in
     omega (arith, c.well_formed.1.0.0, ends_within a.limit a.at a.bytes.now c.measure_within.result c.if-bytes-at.false c.measure_within.ensures _ c.in-Fits.is)
 

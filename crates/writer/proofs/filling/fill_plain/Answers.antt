@@ -1,4 +1,4 @@
--- `fill_plain` writes element after element. Invariant: what is left at the cursor comes to what was due (`Going`).
+-- `fill_plain` writes element after element.
 use mathlib.Core.Path.{refl, ap, ◌∙◌}
 use native.Mathlib.Omega.{arith}
 use Rattle.writer.proofs.Rows.{plain_due, plain_turn, finished}

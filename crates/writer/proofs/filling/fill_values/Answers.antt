@@ -1,4 +1,4 @@
--- `fill_values` writes value after value. Invariant: what is left at the cursor comes to what was due (`Ran`).
+-- `fill_values` writes value after value.
 use mathlib.Core.Path.{refl, ap, ◌∙◌}
 use native.Mathlib.Omega.{arith}
 use Rattle.writer.proofs.Rows.{no_array, ran_none, ran_row, ran_ready, ran_on, ran_end}

@@ -11,17 +11,13 @@ unfolding spell
 returns-then-width-eq0 c = rw c.if-width-eq0.true (refl, lit< tt)
 
 pub bounds-out-at : goal.bounds-out-at
-unfolding spell
 bounds-out-at c = omega (arith, c.requires.1 c.if-width-eq0.false)
 
 pub bounds-out-at-2 : goal.bounds-out-at-2
-unfolding spell
 bounds-out-at-2 c = omega (arith, c.requires.1 c.if-width-eq0.false)
 
 pub bounds-out-at-3 : goal.bounds-out-at-3
-unfolding spell
 bounds-out-at-3 c = omega (arith, c.requires.1 c.if-width-eq0.false)
 
 pub returns : goal.returns
-unfolding spell
 returns c = (rw (c.byte-high.ensures.0, c.byte-middle.ensures.0, c.byte-low.ensures.0, c.requires.1 c.if-width-eq0.false) (three c.args.out.now c.args.at (omega (arith, c.requires.1 c.if-width-eq0.false))), omega arith)

@@ -18,7 +18,6 @@ room : (s : Start) → let f = array_fields (mode_is s.args.nested) (count_in (n
 room s = let o = array_parts _ _ _ _ _ s.requires.0 s.requires.1 _ s.requires.2 _ refl in (omega (arith, o.size, o.ready.room), omega (arith, o.size, o.ready.room))
 
 pub overflow_add-elements : goal.overflow_add-elements
-unfolding count_in kind_in
 overflow_add-elements c = omega (arith, c.requires.3)
 
 pub put_array_fields-size-requires : goal.put_array_fields-size-requires

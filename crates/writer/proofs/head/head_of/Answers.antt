@@ -30,7 +30,6 @@ unfolding head be
 returns-in-Mapped c = rw c.in-Mapped.is c.write_compound.ensures
 
 pub returns-in-Arrayed : goal.returns-in-Arrayed
-unfolding head be
 returns-in-Arrayed c = absurd (subst T (rw c.in-Arrayed.is at c.requires.1) tt)
 
 pub returns-in-Describing : goal.returns-in-Describing

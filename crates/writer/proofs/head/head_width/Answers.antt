@@ -13,7 +13,6 @@ use Rattle.writer.proofs.Bodies.{enclosed_width}
 use Rattle.writer.proofs.head.head_width.Goals as goal
 
 pub overflow_add-result : goal.overflow_add-result
-unfolding head
 overflow_add-result c = omega (arith, number_small (style_is c.args.style) c.args.kind _ _ _ (c.args.kind % 256) _ c.requires (ap style_is c.in-Numbered.is) (c.number_width.ensures (c.args.kind % 256)))
 
 pub returns-then-number-lt-SHORT_END : goal.returns-then-number-lt-SHORT_END

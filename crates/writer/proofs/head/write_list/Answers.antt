@@ -8,5 +8,4 @@ unfolding be
 returns-then-count-eq0 c = rw (c.bare.ensures, eq-eqb _ _ c.if-count-eq0.true)
 
 pub returns : goal.returns
-unfolding be
 returns c = rw (ne_eqb _ _ c.if-count-eq0.false) c.write_compound.ensures

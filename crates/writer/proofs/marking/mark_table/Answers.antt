@@ -1,4 +1,4 @@
--- `mark_table` takes row after row, and closes what is complete. Invariant: what is left makes the buffer that was to be made.
+-- `mark_table` takes row after row, and closes what is complete.
 use mathlib.Core.Path.{refl}
 use native.Mathlib.Omega.{arith}
 use Rattle.writer.proofs.Onward.{few_words, begun, left_small, turn, ended, finished}

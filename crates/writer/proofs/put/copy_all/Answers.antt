@@ -1,4 +1,4 @@
--- `copy_all` copies from the first byte on. Invariant: what is left of the text, at its place, comes to what was due at the start.
+-- `copy_all` copies from the first byte on.
 use mathlib.Core.Path.{refl, ◌∙◌}
 use native.Mathlib.Omega.{arith}
 use lib.ListN.{length-set}

@@ -1,4 +1,4 @@
--- `put_wide` stores the low bytes of a number from the last to the first. Invariant: the bytes that are left, at their place, come to
+-- `put_wide` stores the low bytes of a number from the last to the first.
 use mathlib.Core.Path.{refl, ◌∙◌}
 use native.Mathlib.Omega.{arith}
 use lib.ListN.{length-set}

@@ -1,4 +1,5 @@
 -- `put_wide` stores the low bytes of a number from the last to the first. Invariant: the bytes that are left, at their place, come to
+-- what was due at the start.
 use Prim.Native.Nat.{◌≤◌}
 use mathlib.Core.Path.{◌≡◌}
 use lib.ListN.{length}

@@ -21,17 +21,17 @@ use Rattle.writer.proofs.sizing.+size_children_size_elements_size_items_size_val
 nested : (t : ℕ) (c : size_items-Then-is_nested t) → Nest c.args.levels (like c.args.told) (drop (2 * c.loop-left.c.row) c.args.words.now) c.args.told (get_or c.args.words.now (2 * c.loop-left.c.row + 1) 0)
 nested t c = nest_told _ _ _ _ _ (rw c.if-is_nested.true at c.is_nested.ensures)
 
-nested-first : (t : ℕ) (c : size_items-Then-is_nested t) → Within c.args.words.now c.args.text.now (inside c.loop-left.c c.args.told) × (0 < c.args.levels) × (0 < count_under c.args.told (get_or c.args.words.now (2 * c.loop-left.c.row + 1) 0))
-nested-first t c = nest_first c.loop-left.invariant c.loop-left-test.true _ _ ((nested t c).0 _ _ _) (nested t c).1
+nested_first : (t : ℕ) (c : size_items-Then-is_nested t) → Within c.args.words.now c.args.text.now (inside c.loop-left.c c.args.told) × (0 < c.args.levels) × (0 < count_under c.args.told (get_or c.args.words.now (2 * c.loop-left.c.row + 1) 0))
+nested_first t c = nest_first c.loop-left.invariant c.loop-left-test.true _ _ ((nested t c).0 _ _ _) (nested t c).1
 
 -- the kind that it tells, where it is an array
-nested-told : (t : ℕ) (c : size_items-Then-is_nested t) → c.args.told ≡ 0xf0 → T (member (style_of (kind_in (get_or c.args.words.now (2 * c.loop-left.c.row + 1) 0))))
-nested-told t c e = rw e at (nest_sure c.loop-left.invariant c.loop-left-test.true _ _ ((nested t c).0 _ _ _) (nested t c).1)
+nested_told : (t : ℕ) (c : size_items-Then-is_nested t) → c.args.told ≡ 0xf0 → T (member (style_of (kind_in (get_or c.args.words.now (2 * c.loop-left.c.row + 1) 0))))
+nested_told t c e = rw e at (nest_sure c.loop-left.invariant c.loop-left-test.true _ _ ((nested t c).0 _ _ _) (nested t c).1)
 
 -- what is found of its children
-nested-finds : (t : ℕ) (c : size_items-Joined-told-eq240 t) → Finds c.args.words.now c.args.text.now (c.args.levels - 1) (spot_by c.args.told (get_or c.args.words.now (2 * c.loop-left.c.row + 1) 0)) (count_under c.args.told (get_or c.args.words.now (2 * c.loop-left.c.row + 1) 0)) (inside c.loop-left.c c.args.told) c.loop-left.marks c.if-told-eq240.marks c.if-told-eq240.below × (length c.if-told-eq240.marks ≡ length c.loop-left.marks)
+nested_finds : (t : ℕ) (c : size_items-Joined-told-eq240 t) → Finds c.args.words.now c.args.text.now (c.args.levels - 1) (spot_by c.args.told (get_or c.args.words.now (2 * c.loop-left.c.row + 1) 0)) (count_under c.args.told (get_or c.args.words.now (2 * c.loop-left.c.row + 1) 0)) (inside c.loop-left.c c.args.told) c.loop-left.marks c.if-told-eq240.marks c.if-told-eq240.below × (length c.if-told-eq240.marks ≡ length c.loop-left.marks)
 unfolding count_in kind_in
-nested-finds t c = elim c.if-told-eq240.branch [
+nested_finds t c = elim c.if-told-eq240.branch [
   | size_items-then-told-eq240 w ↦ rw (w.marks-is, w.below-is, w.if-told-eq240.true) (w.size_elements-below.ensures, w.size_elements-below.auto.marks)
   | size_items-else-told-eq240 w ↦ rw (w.marks-is, w.below-is, ne_eqb _ 0xf0 w.if-told-eq240.false) (w.size_children-below.ensures, w.size_children-below.auto.marks)
 ]
@@ -44,11 +44,11 @@ leaf t c = element_on c.loop-left.invariant c.loop-left-test.true _ _ (sym c.che
 opened : (t : ℕ) (c : size_values-In-Open t) → Nest c.args.levels any (drop (2 * c.loop-left.c.row) c.args.words.now) c.in-Open.kind c.in-Open.children × (eqb c.in-Open.kind 0xf0 ≡ false)
 opened t c = told_as _ _ _ _ (sym c.take_row.ensures ∙ c.in-Open.is)
 
-opened-first : (t : ℕ) (c : size_values-In-Open t) → Within c.args.words.now c.args.text.now (inside c.loop-left.c c.in-Open.kind) × (0 < c.args.levels) × (0 < c.in-Open.children)
-opened-first t c = rw (opened t c).1 at (nest_first c.loop-left.invariant c.loop-left-test.true _ _ ((opened t c).0.0 _ _ _) (opened t c).0.1)
+opened_first : (t : ℕ) (c : size_values-In-Open t) → Within c.args.words.now c.args.text.now (inside c.loop-left.c c.in-Open.kind) × (0 < c.args.levels) × (0 < c.in-Open.children)
+opened_first t c = rw (opened t c).1 at (nest_first c.loop-left.invariant c.loop-left-test.true _ _ ((opened t c).0.0 _ _ _) (opened t c).0.1)
 
-opened-finds : (t : ℕ) (c : size_values-After-size_children-below t) → Finds c.args.words.now c.args.text.now (c.args.levels - 1) (spot_by c.in-Open.kind c.in-Open.children) (count_under c.in-Open.kind c.in-Open.children) (inside c.loop-left.c c.in-Open.kind) c.loop-left.marks c.size_children-below.new.marks c.size_children-below.result
-opened-finds t c =
+opened_finds : (t : ℕ) (c : size_values-After-size_children-below t) → Finds c.args.words.now c.args.text.now (c.args.levels - 1) (spot_by c.in-Open.kind c.in-Open.children) (count_under c.in-Open.kind c.in-Open.children) (inside c.loop-left.c c.in-Open.kind) c.loop-left.marks c.size_children-below.new.marks c.size_children-below.result
+opened_finds t c =
     let e : Nest c.args.levels any (drop (2 * c.loop-left.c.row) c.args.words.now) c.in-Open.kind c.in-Open.children × (eqb c.in-Open.kind 0xf0 ≡ false) = told_as _ _ _ _ (sym c.take_row.ensures ∙ c.in-Open.is) in
     rw e.1 c.size_children-below.ensures
 
@@ -56,245 +56,193 @@ opened-finds t c =
 arrayed : (t : ℕ) (c : size_values-In-Array t) → (n : ℕ) × Nest c.args.levels any (drop (2 * c.loop-left.c.row) c.args.words.now) 0xf0 n × (kind_in n ≡ c.in-Array.told) × (count_in n ≡ c.in-Array.elements)
 arrayed t c = told_as _ _ _ _ (sym c.take_row.ensures ∙ c.in-Array.is)
 
-arrayed-first : (t : ℕ) (c : size_values-In-Array t) → Within c.args.words.now c.args.text.now (inside c.loop-left.c 0xf0) × (0 < c.args.levels) × (0 < c.in-Array.elements) × T (member (style_of c.in-Array.told))
-arrayed-first t c = let g = nest_first c.loop-left.invariant c.loop-left-test.true _ _ ((arrayed t c).1.0 _ _ _) (arrayed t c).1.1 in
+arrayed_first : (t : ℕ) (c : size_values-In-Array t) → Within c.args.words.now c.args.text.now (inside c.loop-left.c 0xf0) × (0 < c.args.levels) × (0 < c.in-Array.elements) × T (member (style_of c.in-Array.told))
+arrayed_first t c = let g = nest_first c.loop-left.invariant c.loop-left-test.true _ _ ((arrayed t c).1.0 _ _ _) (arrayed t c).1.1 in
     (g.0, g.1, rw (← (arrayed t c).3) g.2, rw (← (arrayed t c).2) (nest_sure c.loop-left.invariant c.loop-left-test.true _ _ ((arrayed t c).1.0 _ _ _) (arrayed t c).1.1))
 
-arrayed-finds : (t : ℕ) (c : size_values-After-size_elements-below t) (a : (n : ℕ) × Nest c.args.levels any (drop (2 * c.loop-left.c.row) c.args.words.now) 0xf0 n × (kind_in n ≡ c.in-Array.told) × (count_in n ≡ c.in-Array.elements)) → Finds c.args.words.now c.args.text.now (c.args.levels - 1) (spot_by 0xf0 a.0) (count_under 0xf0 a.0) (inside c.loop-left.c 0xf0) c.loop-left.marks c.size_elements-below.new.marks c.size_elements-below.result
-arrayed-finds t c a = rw (a.2, a.3) c.size_elements-below.ensures
+arrayed_finds : (t : ℕ) (c : size_values-After-size_elements-below t) (a : (n : ℕ) × Nest c.args.levels any (drop (2 * c.loop-left.c.row) c.args.words.now) 0xf0 n × (kind_in n ≡ c.in-Array.told) × (count_in n ≡ c.in-Array.elements)) → Finds c.args.words.now c.args.text.now (c.args.levels - 1) (spot_by 0xf0 a.0) (count_under 0xf0 a.0) (inside c.loop-left.c 0xf0) c.loop-left.marks c.size_elements-below.new.marks c.size_elements-below.result
+arrayed_finds t c a = rw (a.2, a.3) c.size_elements-below.ensures
 
 pub size_children-inside-first-requires : goal.size_children-inside-first-requires
-unfolding mode_of count_in kind_in
 size_children-inside-first-requires t c = (omega (arith, c.requires.0.rows, c.well_formed.0.1), omega (arith, c.requires.0.marked, c.requires.0.rows, c.well_formed.0.1))
 
 pub size_children-size_row-none-requires : goal.size_children-size_row-none-requires
-unfolding mode_of count_in kind_in
 size_children-size_row-none-requires t c = (rw c.inside-first.ensures c.requires.0, sym (taken_deep 0 _ _ refl))
 
 pub size_children-returns-then-levels-eq1 : goal.size_children-returns-then-levels-eq1
-unfolding mode_of count_in kind_in
 size_children-returns-then-levels-eq1 t c = rw (c.size_row-none.ensures, c.inside-first.ensures) (deep_finds _ _ _ _ _ _ _ (omega (arith, c.if-levels-eq1.true)) c.requires.2)
 
 pub size_children-overflow_sub-levels : goal.size_children-overflow_sub-levels
-unfolding mode_of count_in kind_in
 size_children-overflow_sub-levels t c = omega (arith, c.requires.1)
 
 pub size_children-size_values-requires : goal.size_children-size_values-requires
-unfolding mode_of count_in kind_in
 size_children-size_values-requires t c = (omega (arith, c.requires.1), rw c.inside-first.ensures c.requires.0)
 
 pub size_children-returns : goal.size_children-returns
-unfolding mode_of count_in kind_in
 size_children-returns t c = rw c.inside-first.ensures at c.size_values.ensures
 
 pub size_elements-inside-first-requires : goal.size_elements-inside-first-requires
-unfolding mode_of count_in kind_in
 size_elements-inside-first-requires t c = (omega (arith, c.requires.0.rows, c.well_formed.0.1), omega (arith, c.requires.0.marked, c.requires.0.rows, c.well_formed.0.1))
 
 pub size_elements-size_row-none-requires : goal.size_elements-size_row-none-requires
-unfolding mode_of count_in kind_in
 size_elements-size_row-none-requires t c = (rw c.inside-first.ensures c.requires.0, sym (taken_deep 0 _ _ refl))
 
 pub size_elements-returns-then-levels-eq1 : goal.size_elements-returns-then-levels-eq1
-unfolding mode_of count_in kind_in
 size_elements-returns-then-levels-eq1 t c = rw (c.size_row-none.ensures, c.inside-first.ensures) (deep_finds _ _ _ _ _ _ _ (omega (arith, c.if-levels-eq1.true)) c.requires.2)
 
 pub size_elements-overflow_sub-levels : goal.size_elements-overflow_sub-levels
-unfolding mode_of count_in kind_in
 size_elements-overflow_sub-levels t c = omega (arith, c.requires.1)
 
 pub size_elements-size_items-requires : goal.size_elements-size_items-requires
-unfolding mode_of count_in kind_in
 size_elements-size_items-requires t c = (omega (arith, c.requires.1), (rw c.inside-first.ensures c.requires.0, c.requires.3))
 
 pub size_elements-returns : goal.size_elements-returns
-unfolding mode_of count_in kind_in
 size_elements-returns t c = rw c.inside-first.ensures at c.size_items.ensures
 
 pub size_items-loop-left-init : goal.size_items-loop-left-init
-unfolding mode_of count_in kind_in
 size_items-loop-left-init t c = comes_self _ _ _ _ _ _ _ c.requires.0 c.requires.1
 
 pub size_items-overflow_sub-left : goal.size_items-overflow_sub-left
-unfolding mode_of count_in kind_in
 size_items-overflow_sub-left t c = omega (arith, c.loop-left-test.true)
 
 pub size_items-is_nested-requires : goal.size_items-is_nested-requires
-unfolding mode_of count_in kind_in
 size_items-is_nested-requires t c = c.loop-left.invariant.within.rows
 
 pub size_items-overflow_mul-number : goal.size_items-overflow_mul-number
-unfolding mode_of count_in kind_in
-size_items-overflow_mul-number t c = let g = (nested-first t (goal.at.size_items-overflow_mul-number t c).Then-is_nested).0 in record { fits = omega (arith, g.rows, c.well_formed.0.1) }
+size_items-overflow_mul-number t c = let g = (nested_first t (goal.at.size_items-overflow_mul-number t c).Then-is_nested).0 in record { fits = omega (arith, g.rows, c.well_formed.0.1) }
 
 pub size_items-overflow_add-number : goal.size_items-overflow_add-number
-unfolding mode_of count_in kind_in
-size_items-overflow_add-number t c = let g = (nested-first t (goal.at.size_items-overflow_add-number t c).Then-is_nested).0 in record { fits = omega (arith, g.rows, c.well_formed.0.1) }
+size_items-overflow_add-number t c = let g = (nested_first t (goal.at.size_items-overflow_add-number t c).Then-is_nested).0 in record { fits = omega (arith, g.rows, c.well_formed.0.1) }
 
 pub size_items-offset_bounds-words-c : goal.size_items-offset_bounds-words-c
-unfolding mode_of count_in kind_in
-size_items-offset_bounds-words-c t c = let g = (nested-first t (goal.at.size_items-offset_bounds-words-c t c).Then-is_nested).0 in omega (arith, g.rows, c.well_formed.0.1)
+size_items-offset_bounds-words-c t c = let g = (nested_first t (goal.at.size_items-offset_bounds-words-c t c).Then-is_nested).0 in omega (arith, g.rows, c.well_formed.0.1)
 
 pub size_items-bounds-words-c : goal.size_items-bounds-words-c
-unfolding mode_of count_in kind_in
-size_items-bounds-words-c t c = let g = (nested-first t (goal.at.size_items-bounds-words-c t c).Then-is_nested).0 in omega (arith, g.rows)
+size_items-bounds-words-c t c = let g = (nested_first t (goal.at.size_items-bounds-words-c t c).Then-is_nested).0 in omega (arith, g.rows)
 
 pub size_items-size_elements-below-requires : goal.size_items-size_elements-below-requires
 unfolding mode_of count_in kind_in
-size_items-size_elements-below-requires t c = let g = rw c.if-told-eq240.true at (nested-first t (goal.at.size_items-size_elements-below-requires t c).Then-is_nested) in (omega (arith), (g.0, g.1, g.2, nested-told t (goal.at.size_items-size_elements-below-requires t c).Then-is_nested c.if-told-eq240.true))
+size_items-size_elements-below-requires t c = let g = rw c.if-told-eq240.true at (nested_first t (goal.at.size_items-size_elements-below-requires t c).Then-is_nested) in (omega (arith), (g.0, g.1, g.2, nested_told t (goal.at.size_items-size_elements-below-requires t c).Then-is_nested c.if-told-eq240.true))
 
 pub size_items-size_children-below-requires : goal.size_items-size_children-below-requires
-unfolding mode_of count_in kind_in
-size_items-size_children-below-requires t c = (omega (arith), rw (ne_eqb _ 0xf0 c.if-told-eq240.false) at (nested-first t (goal.at.size_items-size_children-below-requires t c).Then-is_nested))
+size_items-size_children-below-requires t c = (omega (arith), rw (ne_eqb _ 0xf0 c.if-told-eq240.false) at (nested_first t (goal.at.size_items-size_children-below-requires t c).Then-is_nested))
 
 pub size_items-returns-in_default : goal.size_items-returns-in_default
-unfolding mode_of count_in kind_in
-size_items-returns-in_default t c = rw c.in_default.is (nest_no c.loop-left.invariant c.loop-left-test.true _ _ ((nested t (goal.at.size_items-returns-in_default t c).Then-is_nested).0 _ _ _) (nested t (goal.at.size_items-returns-in_default t c).Then-is_nested).1 _ (nested-finds t (goal.at.size_items-returns-in_default t c).Joined-told-eq240).1 _ (nested-finds t (goal.at.size_items-returns-in_default t c).Joined-told-eq240).0 _ c.in_default.is)
+size_items-returns-in_default t c = rw c.in_default.is (nest_no c.loop-left.invariant c.loop-left-test.true _ _ ((nested t (goal.at.size_items-returns-in_default t c).Then-is_nested).0 _ _ _) (nested t (goal.at.size_items-returns-in_default t c).Then-is_nested).1 _ (nested_finds t (goal.at.size_items-returns-in_default t c).Joined-told-eq240).1 _ (nested_finds t (goal.at.size_items-returns-in_default t c).Joined-told-eq240).0 _ c.in_default.is)
 
 pub size_items-close-c-requires : goal.size_items-close-c-requires
 unfolding mode_of count_in kind_in
-size_items-close-c-requires t c = let s = nest_sums c.loop-left.invariant c.loop-left-test.true _ _ ((nested t (goal.at.size_items-close-c-requires t c).Then-is_nested).0 _ _ _) (nested t (goal.at.size_items-close-c-requires t c).Then-is_nested).1 _ (nested-finds t (goal.at.size_items-close-c-requires t c).Joined-told-eq240).1 _ (nested-finds t (goal.at.size_items-close-c-requires t c).Joined-told-eq240).0 _ c.in-Fits.is _ c.nested_head.ensures c.well_formed.0.1 c.well_formed.1.0.1 in (s.1, s.2)
+size_items-close-c-requires t c = let s = nest_sums c.loop-left.invariant c.loop-left-test.true _ _ ((nested t (goal.at.size_items-close-c-requires t c).Then-is_nested).0 _ _ _) (nested t (goal.at.size_items-close-c-requires t c).Then-is_nested).1 _ (nested_finds t (goal.at.size_items-close-c-requires t c).Joined-told-eq240).1 _ (nested_finds t (goal.at.size_items-close-c-requires t c).Joined-told-eq240).0 _ c.in-Fits.is _ c.nested_head.ensures c.well_formed.0.1 c.well_formed.1.0.1 in (s.1, s.2)
 
 pub size_items-loop-left-smaller-then-is_nested : goal.size_items-loop-left-smaller-then-is_nested
-unfolding mode_of count_in kind_in
 size_items-loop-left-smaller-then-is_nested t c = omega (arith, c.loop-left-test.true)
 
 pub size_items-loop-left-preserved-then-is_nested : goal.size_items-loop-left-preserved-then-is_nested
 unfolding mode_of count_in kind_in
-size_items-loop-left-preserved-then-is_nested t c = rw c.close-c.ensures.0 (nest_on c.loop-left.invariant c.loop-left-test.true _ _ ((nested t (goal.at.size_items-loop-left-preserved-then-is_nested t c).Then-is_nested).0 _ _ _) (nested t (goal.at.size_items-loop-left-preserved-then-is_nested t c).Then-is_nested).1 _ (nested-finds t (goal.at.size_items-loop-left-preserved-then-is_nested t c).Joined-told-eq240).1 _ (nested-finds t (goal.at.size_items-loop-left-preserved-then-is_nested t c).Joined-told-eq240).0 _ c.in-Fits.is _ c.nested_head.ensures _ c.close-c.ensures.1 c.close-c.auto.marks)
+size_items-loop-left-preserved-then-is_nested t c = rw c.close-c.ensures.0 (nest_on c.loop-left.invariant c.loop-left-test.true _ _ ((nested t (goal.at.size_items-loop-left-preserved-then-is_nested t c).Then-is_nested).0 _ _ _) (nested t (goal.at.size_items-loop-left-preserved-then-is_nested t c).Then-is_nested).1 _ (nested_finds t (goal.at.size_items-loop-left-preserved-then-is_nested t c).Joined-told-eq240).1 _ (nested_finds t (goal.at.size_items-loop-left-preserved-then-is_nested t c).Joined-told-eq240).0 _ c.in-Fits.is _ c.nested_head.ensures _ c.close-c.ensures.1 c.close-c.auto.marks)
 
 pub size_items-check_element-requires : goal.size_items-check_element-requires
-unfolding mode_of count_in kind_in
 size_items-check_element-requires t c = (c.loop-left.invariant.within.rows, c.loop-left.invariant.within.letters)
 
 pub size_items-returns-in-Bad : goal.size_items-returns-in-Bad
-unfolding mode_of count_in kind_in
 size_items-returns-in-Bad t c = comes_no c.loop-left.invariant c.loop-left-test.true _ _ (sym c.check_element.ensures.0 ∙ ap (checked_is c.loop-left.c.row) c.in-Bad.is)
 
 pub size_items-returns-in-Faulty : goal.size_items-returns-in-Faulty
-unfolding mode_of count_in kind_in
 size_items-returns-in-Faulty t c = comes_no c.loop-left.invariant c.loop-left-test.true _ _ (sym c.check_element.ensures.0 ∙ ap (checked_is c.loop-left.c.row) c.in-Faulty.is)
 
 pub size_items-overflow_add-item_width : goal.size_items-overflow_add-item_width
-unfolding mode_of count_in kind_in
 size_items-overflow_add-item_width t c = let s = small (leaf t c).within c.well_formed.0.1 c.well_formed.1.0.1 in record { fits = omega (arith, s.size) }
 
 pub size_items-past-c-requires : goal.size_items-past-c-requires
-unfolding mode_of count_in kind_in
 size_items-past-c-requires t c = small (leaf t c).within c.well_formed.0.1 c.well_formed.1.0.1
 
 pub size_items-loop-left-smaller : goal.size_items-loop-left-smaller
-unfolding mode_of count_in kind_in
 size_items-loop-left-smaller t c = omega (arith, c.loop-left-test.true)
 
 pub size_items-loop-left-preserved : goal.size_items-loop-left-preserved
-unfolding mode_of count_in kind_in
 size_items-loop-left-preserved t c = rw c.past-c.ensures (leaf t (goal.at.size_items-loop-left-preserved t c).After-item_width)
 
 pub size_items-returns : goal.size_items-returns
-unfolding mode_of count_in kind_in
 size_items-returns t c = comes_found c.loop-left.invariant _ _ (finds_none _ _ _ _ _ _ _ (omega (arith, c.loop-left-test.false)))
 
 pub size_values-loop-left-init : goal.size_values-loop-left-init
-unfolding mode_of count_in kind_in
 size_values-loop-left-init t c = comes_self _ _ _ _ _ _ _ c.requires tt
 
 pub size_values-overflow_sub-left : goal.size_values-overflow_sub-left
-unfolding mode_of count_in kind_in
 size_values-overflow_sub-left t c = omega (arith, c.loop-left-test.true)
 
 pub size_values-take_row-requires : goal.size_values-take_row-requires
-unfolding mode_of count_in kind_in
 size_values-take_row-requires t c = (c.loop-left.invariant.within.rows, c.loop-left.invariant.within.letters)
 
 pub size_values-past-c-requires : goal.size_values-past-c-requires
-unfolding mode_of count_in kind_in
 size_values-past-c-requires t c = small (values_leaf c.loop-left.invariant c.loop-left-test.true _ _ (told_as _ _ _ _ (sym c.take_row.ensures ∙ c.in-Number.is))).within c.well_formed.0.1 c.well_formed.1.0.1
 
 pub size_values-loop-left-smaller-in-Number : goal.size_values-loop-left-smaller-in-Number
-unfolding mode_of count_in kind_in
 size_values-loop-left-smaller-in-Number t c = omega (arith, c.loop-left-test.true)
 
 pub size_values-loop-left-preserved-in-Number : goal.size_values-loop-left-preserved-in-Number
-unfolding mode_of count_in kind_in
 size_values-loop-left-preserved-in-Number t c = rw c.past-c.ensures (values_leaf c.loop-left.invariant c.loop-left-test.true _ _ (told_as _ _ _ _ (sym c.take_row.ensures ∙ c.in-Number.is)))
 
 pub size_values-past-c-requires-in-Letters : goal.size_values-past-c-requires-in-Letters
-unfolding mode_of count_in kind_in
 size_values-past-c-requires-in-Letters t c = small (values_leaf c.loop-left.invariant c.loop-left-test.true _ _ (told_as _ _ _ _ (sym c.take_row.ensures ∙ c.in-Letters.is))).within c.well_formed.0.1 c.well_formed.1.0.1
 
 pub size_values-loop-left-smaller-in-Letters : goal.size_values-loop-left-smaller-in-Letters
-unfolding mode_of count_in kind_in
 size_values-loop-left-smaller-in-Letters t c = omega (arith, c.loop-left-test.true)
 
 pub size_values-loop-left-preserved-in-Letters : goal.size_values-loop-left-preserved-in-Letters
-unfolding mode_of count_in kind_in
 size_values-loop-left-preserved-in-Letters t c = rw c.past-c-in-Letters.ensures (values_leaf c.loop-left.invariant c.loop-left-test.true _ _ (told_as _ _ _ _ (sym c.take_row.ensures ∙ c.in-Letters.is)))
 
 pub size_values-size_children-below-requires : goal.size_values-size_children-below-requires
-unfolding mode_of count_in kind_in
-size_values-size_children-below-requires t c = (omega (arith), opened-first t (goal.at.size_values-size_children-below-requires t c).In-Open)
+size_values-size_children-below-requires t c = (omega (arith), opened_first t (goal.at.size_values-size_children-below-requires t c).In-Open)
 
 pub size_values-returns-in_default : goal.size_values-returns-in_default
-unfolding mode_of count_in kind_in
-size_values-returns-in_default t c = rw c.in_default.is (nest_no c.loop-left.invariant c.loop-left-test.true _ _ ((opened t (goal.at.size_values-returns-in_default t c).In-Open).0.0 _ _ _) (opened t (goal.at.size_values-returns-in_default t c).In-Open).0.1 _ c.size_children-below.auto.marks _ (opened-finds t (goal.at.size_values-returns-in_default t c).After-size_children-below) _ c.in_default.is)
+size_values-returns-in_default t c = rw c.in_default.is (nest_no c.loop-left.invariant c.loop-left-test.true _ _ ((opened t (goal.at.size_values-returns-in_default t c).In-Open).0.0 _ _ _) (opened t (goal.at.size_values-returns-in_default t c).In-Open).0.1 _ c.size_children-below.auto.marks _ (opened_finds t (goal.at.size_values-returns-in_default t c).After-size_children-below) _ c.in_default.is)
 
 pub size_values-open_head-requires : goal.size_values-open_head-requires
-unfolding mode_of count_in kind_in
 size_values-open_head-requires t c = eqb-false _ 0xf0 (opened t (goal.at.size_values-open_head-requires t c).In-Open).1
 
 pub size_values-close-c-requires : goal.size_values-close-c-requires
 unfolding mode_of count_in kind_in
-size_values-close-c-requires t c = let s = nest_sums c.loop-left.invariant c.loop-left-test.true _ _ ((opened t (goal.at.size_values-close-c-requires t c).In-Open).0.0 _ _ _) (opened t (goal.at.size_values-close-c-requires t c).In-Open).0.1 _ c.size_children-below.auto.marks _ (opened-finds t (goal.at.size_values-close-c-requires t c).After-size_children-below) _ c.in-Fits.is _ c.open_head.ensures c.well_formed.0.1 c.well_formed.1.0.1 in (s.1, s.2)
+size_values-close-c-requires t c = let s = nest_sums c.loop-left.invariant c.loop-left-test.true _ _ ((opened t (goal.at.size_values-close-c-requires t c).In-Open).0.0 _ _ _) (opened t (goal.at.size_values-close-c-requires t c).In-Open).0.1 _ c.size_children-below.auto.marks _ (opened_finds t (goal.at.size_values-close-c-requires t c).After-size_children-below) _ c.in-Fits.is _ c.open_head.ensures c.well_formed.0.1 c.well_formed.1.0.1 in (s.1, s.2)
 
 pub size_values-loop-left-smaller-in-Open : goal.size_values-loop-left-smaller-in-Open
-unfolding mode_of count_in kind_in
 size_values-loop-left-smaller-in-Open t c = omega (arith, c.loop-left-test.true)
 
 pub size_values-loop-left-preserved-in-Open : goal.size_values-loop-left-preserved-in-Open
 unfolding mode_of count_in kind_in
-size_values-loop-left-preserved-in-Open t c = rw c.close-c.ensures.0 (nest_on c.loop-left.invariant c.loop-left-test.true _ _ ((opened t (goal.at.size_values-loop-left-preserved-in-Open t c).In-Open).0.0 _ _ _) (opened t (goal.at.size_values-loop-left-preserved-in-Open t c).In-Open).0.1 _ c.size_children-below.auto.marks _ (opened-finds t (goal.at.size_values-loop-left-preserved-in-Open t c).After-size_children-below) _ c.in-Fits.is _ c.open_head.ensures _ c.close-c.ensures.1 c.close-c.auto.marks)
+size_values-loop-left-preserved-in-Open t c = rw c.close-c.ensures.0 (nest_on c.loop-left.invariant c.loop-left-test.true _ _ ((opened t (goal.at.size_values-loop-left-preserved-in-Open t c).In-Open).0.0 _ _ _) (opened t (goal.at.size_values-loop-left-preserved-in-Open t c).In-Open).0.1 _ c.size_children-below.auto.marks _ (opened_finds t (goal.at.size_values-loop-left-preserved-in-Open t c).After-size_children-below) _ c.in-Fits.is _ c.open_head.ensures _ c.close-c.ensures.1 c.close-c.auto.marks)
 
 pub size_values-size_elements-below-requires : goal.size_values-size_elements-below-requires
-unfolding mode_of count_in kind_in
-size_values-size_elements-below-requires t c = (omega (arith), arrayed-first t (goal.at.size_values-size_elements-below-requires t c).In-Array)
+size_values-size_elements-below-requires t c = (omega (arith), arrayed_first t (goal.at.size_values-size_elements-below-requires t c).In-Array)
 
 pub size_values-returns-in_default-below : goal.size_values-returns-in_default-below
-unfolding mode_of count_in kind_in
-size_values-returns-in_default-below t c = rw c.in_default-below.is (nest_no c.loop-left.invariant c.loop-left-test.true _ _ ((arrayed t (goal.at.size_values-returns-in_default-below t c).In-Array).1.0 _ _ _) (arrayed t (goal.at.size_values-returns-in_default-below t c).In-Array).1.1 _ c.size_elements-below.auto.marks _ (arrayed-finds t (goal.at.size_values-returns-in_default-below t c).After-size_elements-below (arrayed t (goal.at.size_values-returns-in_default-below t c).In-Array)) _ c.in_default-below.is)
+size_values-returns-in_default-below t c = rw c.in_default-below.is (nest_no c.loop-left.invariant c.loop-left-test.true _ _ ((arrayed t (goal.at.size_values-returns-in_default-below t c).In-Array).1.0 _ _ _) (arrayed t (goal.at.size_values-returns-in_default-below t c).In-Array).1.1 _ c.size_elements-below.auto.marks _ (arrayed_finds t (goal.at.size_values-returns-in_default-below t c).After-size_elements-below (arrayed t (goal.at.size_values-returns-in_default-below t c).In-Array)) _ c.in_default-below.is)
 
 pub size_values-array_width-requires : goal.size_values-array_width-requires
-unfolding mode_of count_in kind_in
-size_values-array_width-requires t c = let s = nest_sums c.loop-left.invariant c.loop-left-test.true _ _ ((arrayed t (goal.at.size_values-array_width-requires t c).In-Array).1.0 _ _ _) (arrayed t (goal.at.size_values-array_width-requires t c).In-Array).1.1 _ c.size_elements-below.auto.marks _ (arrayed-finds t (goal.at.size_values-array_width-requires t c).After-size_elements-below (arrayed t (goal.at.size_values-array_width-requires t c).In-Array)) _ c.in-Fits-below.is _ refl c.well_formed.0.1 c.well_formed.1.0.1 in s.0
+size_values-array_width-requires t c = let s = nest_sums c.loop-left.invariant c.loop-left-test.true _ _ ((arrayed t (goal.at.size_values-array_width-requires t c).In-Array).1.0 _ _ _) (arrayed t (goal.at.size_values-array_width-requires t c).In-Array).1.1 _ c.size_elements-below.auto.marks _ (arrayed_finds t (goal.at.size_values-array_width-requires t c).After-size_elements-below (arrayed t (goal.at.size_values-array_width-requires t c).In-Array)) _ c.in-Fits-below.is _ refl c.well_formed.0.1 c.well_formed.1.0.1 in s.0
 
 pub size_values-close-c-requires-in-Array : goal.size_values-close-c-requires-in-Array
 unfolding mode_of count_in kind_in
-size_values-close-c-requires-in-Array t c = let s = nest_sums c.loop-left.invariant c.loop-left-test.true _ _ ((arrayed t (goal.at.size_values-close-c-requires-in-Array t c).In-Array).1.0 _ _ _) (arrayed t (goal.at.size_values-close-c-requires-in-Array t c).In-Array).1.1 _ c.size_elements-below.auto.marks _ (arrayed-finds t (goal.at.size_values-close-c-requires-in-Array t c).After-size_elements-below (arrayed t (goal.at.size_values-close-c-requires-in-Array t c).In-Array)) _ c.in-Fits-below.is _ c.array_width.ensures c.well_formed.0.1 c.well_formed.1.0.1 in (s.1, s.2)
+size_values-close-c-requires-in-Array t c = let s = nest_sums c.loop-left.invariant c.loop-left-test.true _ _ ((arrayed t (goal.at.size_values-close-c-requires-in-Array t c).In-Array).1.0 _ _ _) (arrayed t (goal.at.size_values-close-c-requires-in-Array t c).In-Array).1.1 _ c.size_elements-below.auto.marks _ (arrayed_finds t (goal.at.size_values-close-c-requires-in-Array t c).After-size_elements-below (arrayed t (goal.at.size_values-close-c-requires-in-Array t c).In-Array)) _ c.in-Fits-below.is _ c.array_width.ensures c.well_formed.0.1 c.well_formed.1.0.1 in (s.1, s.2)
 
 pub size_values-loop-left-smaller-in-Array : goal.size_values-loop-left-smaller-in-Array
-unfolding mode_of count_in kind_in
 size_values-loop-left-smaller-in-Array t c = omega (arith, c.loop-left-test.true)
 
 pub size_values-loop-left-preserved-in-Array : goal.size_values-loop-left-preserved-in-Array
 unfolding mode_of count_in kind_in
-size_values-loop-left-preserved-in-Array t c = rw c.close-c-in-Array.ensures.0 (nest_on c.loop-left.invariant c.loop-left-test.true _ _ ((arrayed t (goal.at.size_values-loop-left-preserved-in-Array t c).In-Array).1.0 _ _ _) (arrayed t (goal.at.size_values-loop-left-preserved-in-Array t c).In-Array).1.1 _ c.size_elements-below.auto.marks _ (arrayed-finds t (goal.at.size_values-loop-left-preserved-in-Array t c).After-size_elements-below (arrayed t (goal.at.size_values-loop-left-preserved-in-Array t c).In-Array)) _ c.in-Fits-below.is _ c.array_width.ensures _ c.close-c-in-Array.ensures.1 c.close-c-in-Array.auto.marks)
+size_values-loop-left-preserved-in-Array t c = rw c.close-c-in-Array.ensures.0 (nest_on c.loop-left.invariant c.loop-left-test.true _ _ ((arrayed t (goal.at.size_values-loop-left-preserved-in-Array t c).In-Array).1.0 _ _ _) (arrayed t (goal.at.size_values-loop-left-preserved-in-Array t c).In-Array).1.1 _ c.size_elements-below.auto.marks _ (arrayed_finds t (goal.at.size_values-loop-left-preserved-in-Array t c).After-size_elements-below (arrayed t (goal.at.size_values-loop-left-preserved-in-Array t c).In-Array)) _ c.in-Fits-below.is _ c.array_width.ensures _ c.close-c-in-Array.ensures.1 c.close-c-in-Array.auto.marks)
 
 pub size_values-size_other-one-requires : goal.size_values-size_other-one-requires
-unfolding mode_of count_in kind_in
 size_values-size_other-one-requires t c = (c.loop-left.invariant.within, sym c.take_row.ensures ∙ c.in-Other.is)
 
 pub size_values-returns-in_default-one : goal.size_values-returns-in_default-one
-unfolding mode_of count_in kind_in
 size_values-returns-in_default-one t c = rw c.in_default-one.is (subst (Rowed _ _ _ _ _ _ _ _) (sym c.size_other-one.ensures ∙ c.in_default-one.is) (other_rowed c.loop-left.invariant c.loop-left-test.true (sym c.take_row.ensures ∙ c.in-Other.is)))
 
 pub size_values-loop-left-smaller : goal.size_values-loop-left-smaller
-unfolding mode_of count_in kind_in
 size_values-loop-left-smaller t c = omega (arith, c.loop-left-test.true)
 
 pub size_values-loop-left-preserved : goal.size_values-loop-left-preserved
-unfolding mode_of count_in kind_in
 size_values-loop-left-preserved t c = subst (Rowed _ _ _ _ _ _ _ _) (sym c.size_other-one.ensures ∙ c.in-Fits-one.is) (other_rowed c.loop-left.invariant c.loop-left-test.true (sym c.take_row.ensures ∙ c.in-Other.is))
 
 pub size_values-returns : goal.size_values-returns
-unfolding mode_of count_in kind_in
 size_values-returns t c = comes_found c.loop-left.invariant _ _ (finds_none _ _ _ _ _ _ _ (omega (arith, c.loop-left-test.false)))

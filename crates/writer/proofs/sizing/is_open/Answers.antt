@@ -9,7 +9,6 @@ use Rattle.writer.proofs.Sizes.{empty_closed, not_open, map_open, map_closed}
 use Rattle.writer.proofs.sizing.is_open.Goals as goal
 
 pub returns-then-number-eq0 : goal.returns-then-number-eq0
-unfolding lookup kinds style_of ranged children nests opens
 returns-then-number-eq0 c = empty_closed c.args.kind c.args.number c.if-number-eq0.true
 
 pub returns-then-number-eq0-2 : goal.returns-then-number-eq0-2

@@ -8,9 +8,7 @@ unfolding be
 returns-then-width-eq0 c = λ h. rw c.if-width-eq0.true
 
 pub returns-then-at-marks : goal.returns-then-at-marks
-unfolding be
 returns-then-at-marks c = λ h. rw (c.requires.0 c.if-width-eq0.false) c.put_three.ensures
 
 pub returns-else-at-marks : goal.returns-else-at-marks
-unfolding be
 returns-else-at-marks c = λ h. absurd (omega (arith, c.if-at-marks.false, c.requires.0 c.if-width-eq0.false))
