@@ -1,11 +1,16 @@
 -- Small facts about tests, tables and refusals, which proofs of every crate cite.
 use Rattle.std.specs.Prelude.{ℕ, zero, suc, ◌≤◌, ◌<◌, ◌≡◌, refl, List, [], ◌∷◌, Bool, true, false, not, ◌&&◌, T, eqb, leb, drop}
-use Rattle.std.proofs.Common.{ne_eqb, le-leb}
-use Rattle.std.proofs.lemmas.Bool.{lt-leb}
+use Rattle.std.proofs.Common.{sym, ap, ◌∙◌, ne_eqb, le-leb}
+use Rattle.std.proofs.lemmas.Bool.{lt-leb, false≢true}
 use Rattle.standard.specs.Choose.{if, lookup}
 use Rattle.standard.specs.Text.{Sequence, then, lead_in, flawless, is_flawless, fault_due}
-use Rattle.standard.specs.Kinds.{flaw, clean}
+use Rattle.standard.specs.Kinds.{Style, foreign, numbered, blob, lettered, listed, mapped, arrayed, describing, style_of, kinds, is_kind, member, flaw, clean}
+use Rattle.standard.specs.InCode.{reason_is, kind_is}
+use Rattle.standard.specs.declared.refusal.Reason.{Reason}
+use Rattle.standard.specs.declared.refusal.Reason.TheVariants as reason
 use Rattle.standard.specs.declared.refusal.Refusal.{Refusal}
+use Rattle.standard.specs.declared.kind.Kind.{Kind}
+use Rattle.standard.specs.declared.kind.Kind.TheVariants as kind
 
 pub T_true : (b : Bool) → T b → b ≡ true
 T_true true t = refl
@@ -83,6 +88,147 @@ unfolding fault_due
 none_due ss s t p [] = refl
 none_due ss s t p (b ∷ bs) = refl
 
+-- The code's own types say different things of different values: each can be had back from its number
+
+reason_back : ℕ → Reason
+reason_back n =
+    if (eqb n 1) reason.RowsAmiss (
+    if (eqb n 2) reason.KindUnknown (
+    if (eqb n 3) reason.TooDeep (
+    if (eqb n 4) reason.ElementUnfit (
+    if (eqb n 5) reason.NumberOutside (
+    if (eqb n 6) reason.TextAmiss (
+    if (eqb n 7) reason.TooLong (
+    if (eqb n 8) reason.OutputShort (
+    if (eqb n 9) reason.InputShort (
+    if (eqb n 10) reason.CodeUnknown (
+    if (eqb n 11) reason.PayloadBad (
+    if (eqb n 12) reason.SizeAmiss (
+    if (eqb n 13) reason.RowsShort (
+    if (eqb n 14) reason.TextShort (
+    reason.LimitOutside))))))))))))))
+
+reason_told : (r : Reason) → reason_back (reason_is r) ≡ r
+unfolding reason_back
+reason_told reason.RowsAmiss = refl
+reason_told reason.KindUnknown = refl
+reason_told reason.TooDeep = refl
+reason_told reason.ElementUnfit = refl
+reason_told reason.NumberOutside = refl
+reason_told reason.TextAmiss = refl
+reason_told reason.TooLong = refl
+reason_told reason.OutputShort = refl
+reason_told reason.InputShort = refl
+reason_told reason.CodeUnknown = refl
+reason_told reason.PayloadBad = refl
+reason_told reason.SizeAmiss = refl
+reason_told reason.RowsShort = refl
+reason_told reason.TextShort = refl
+reason_told reason.LimitOutside = refl
+
+pub same_reason : (r s : Reason) → reason_is r ≡ reason_is s → r ≡ s
+same_reason r s e = sym (reason_told r) ∙ ap reason_back e ∙ reason_told s
+
 -- a refusal of the code is its number and its place
-pub same_refusal : (f g : Refusal) → f.number ≡ g.number → f.place ≡ g.place → f ≡ g
-same_refusal f g n p i = record { number = n i; place = p i }
+pub same_refusal : (f g : Refusal) → reason_is f.reason ≡ reason_is g.reason → f.place ≡ g.place → f ≡ g
+same_refusal f g n p = let r = same_reason f.reason g.reason n in λ i. record { reason = r i; place = p i }
+
+kind_back : ℕ → Kind
+kind_back n =
+    if (eqb n 0x00) kind.Described (
+    if (eqb n 0x40) kind.Null (
+    if (eqb n 0x50) kind.Ubyte (
+    if (eqb n 0x51) kind.Byte (
+    if (eqb n 0x56) kind.Boolean (
+    if (eqb n 0x60) kind.Ushort (
+    if (eqb n 0x61) kind.Short (
+    if (eqb n 0x70) kind.Uint (
+    if (eqb n 0x71) kind.Int (
+    if (eqb n 0x72) kind.Float (
+    if (eqb n 0x73) kind.Char (
+    if (eqb n 0x74) kind.Decimal32 (
+    if (eqb n 0x80) kind.Ulong (
+    if (eqb n 0x81) kind.Long (
+    if (eqb n 0x82) kind.Double (
+    if (eqb n 0x83) kind.Timestamp (
+    if (eqb n 0x84) kind.Decimal64 (
+    if (eqb n 0x94) kind.Decimal128 (
+    if (eqb n 0x98) kind.Uuid (
+    if (eqb n 0xb0) kind.Binary (
+    if (eqb n 0xb1) kind.String (
+    if (eqb n 0xb3) kind.Symbol (
+    if (eqb n 0xd0) kind.List (
+    if (eqb n 0xd1) kind.Map (
+    kind.Array))))))))))))))))))))))))
+
+kind_told : (k : Kind) → kind_back (kind_is k) ≡ k
+unfolding kind_back
+kind_told kind.Described = refl
+kind_told kind.Null = refl
+kind_told kind.Ubyte = refl
+kind_told kind.Byte = refl
+kind_told kind.Boolean = refl
+kind_told kind.Ushort = refl
+kind_told kind.Short = refl
+kind_told kind.Uint = refl
+kind_told kind.Int = refl
+kind_told kind.Float = refl
+kind_told kind.Char = refl
+kind_told kind.Decimal32 = refl
+kind_told kind.Ulong = refl
+kind_told kind.Long = refl
+kind_told kind.Double = refl
+kind_told kind.Timestamp = refl
+kind_told kind.Decimal64 = refl
+kind_told kind.Decimal128 = refl
+kind_told kind.Uuid = refl
+kind_told kind.Binary = refl
+kind_told kind.String = refl
+kind_told kind.Symbol = refl
+kind_told kind.List = refl
+kind_told kind.Map = refl
+kind_told kind.Array = refl
+
+pub same_kind : (j k : Kind) → kind_is j ≡ kind_is k → j ≡ k
+same_kind j k e = sym (kind_told j) ∙ ap kind_back e ∙ kind_told k
+
+-- each is one of the 25
+pub known : (k : Kind) → is_kind (style_of (kind_is k)) ≡ true
+unfolding style_of kinds lookup is_kind
+known kind.Described = refl
+known kind.Null = refl
+known kind.Ubyte = refl
+known kind.Byte = refl
+known kind.Boolean = refl
+known kind.Ushort = refl
+known kind.Short = refl
+known kind.Uint = refl
+known kind.Int = refl
+known kind.Float = refl
+known kind.Char = refl
+known kind.Decimal32 = refl
+known kind.Ulong = refl
+known kind.Long = refl
+known kind.Double = refl
+known kind.Timestamp = refl
+known kind.Decimal64 = refl
+known kind.Decimal128 = refl
+known kind.Uuid = refl
+known kind.Binary = refl
+known kind.String = refl
+known kind.Symbol = refl
+known kind.List = refl
+known kind.Map = refl
+known kind.Array = refl
+
+-- what is no kind is no element of an array
+pub strange : (s : Style) → is_kind s ≡ false → member s ≡ false
+unfolding is_kind member
+strange foreign h = refl
+strange (numbered t w) h = absurd (false≢true (sym h))
+strange (blob w) h = absurd (false≢true (sym h))
+strange (lettered t) h = absurd (false≢true (sym h))
+strange (listed e t) h = absurd (false≢true (sym h))
+strange (mapped t) h = absurd (false≢true (sym h))
+strange (arrayed t) h = absurd (false≢true (sym h))
+strange describing h = absurd (false≢true (sym h))

@@ -1,7 +1,9 @@
 // The 40 format codes of AMQP 1.0 (Part 1, 1.6; docs/FORMAT.md, 4.1).
-ghost use Rattle.std.specs.Prelude.{◌≡◌};
+ghost use Rattle.std.specs.Prelude.{◌≡◌, Some};
 ghost use Rattle.standard.specs.Codes.{entry_of};
 ghost use Rattle.standard.specs.InCode.{entry_is};
+
+use crate::kind::Kind;
 
 pub const DESCRIBED: u8 = 0x00;
 
@@ -102,8 +104,6 @@ impl Compound32 {
 // What stands behind a format code.
 #[derive(Clone, Copy)]
 pub enum Layout {
-    // No format code.
-    Unknown,
     // Two values: descriptor and value.
     Described,
     // Nothing: the code says the number.
@@ -124,53 +124,63 @@ pub enum Layout {
 
 // The kind of row that a code reads to, and what stands behind the code.
 #[derive(Clone, Copy)]
-pub struct Entry(pub u64, pub Layout);
+pub struct Entry {
+    pub kind: Kind,
+    pub layout: Layout,
+}
 
+fn reads_to(kind: Kind, layout: Layout) -> Option<Entry>
+    ensures { result ≡ Some (record { kind = kind; layout = layout }) }
+{
+    Some(Entry { kind, layout })
+}
+
+// The entry of a format code; none for a byte that is none of the 40.
 #[tactic(auto, unfolding(crate::specs::Codes::entry_of, crate::specs::Codes::codes, crate::specs::Choose::lookup, crate::specs::InCode::entry_is))]
-pub fn entry_of(code: u8) -> Entry
+pub fn entry_of(code: u8) -> Option<Entry>
     ensures { entry_is code result ≡ entry_of code }
 {
     match code {
-        DESCRIBED => Entry(0x00, Layout::Described),
-        NULL => Entry(0x40, Layout::Whole(0)),
-        TRUE => Entry(0x56, Layout::Constant(1)),
-        FALSE => Entry(0x56, Layout::Constant(0)),
-        UINT_0 => Entry(0x70, Layout::Constant(0)),
-        ULONG_0 => Entry(0x80, Layout::Constant(0)),
-        LIST_0 => Entry(0xd0, Layout::Constant(0)),
-        UBYTE => Entry(0x50, Layout::Whole(1)),
-        BYTE => Entry(0x51, Layout::Whole(1)),
-        SMALL_UINT => Entry(0x70, Layout::Whole(1)),
-        SMALL_ULONG => Entry(0x80, Layout::Whole(1)),
-        SMALL_INT => Entry(0x71, Layout::Small(4)),
-        SMALL_LONG => Entry(0x81, Layout::Small(8)),
-        BOOLEAN => Entry(0x56, Layout::Whole(1)),
-        USHORT => Entry(0x60, Layout::Whole(2)),
-        SHORT => Entry(0x61, Layout::Whole(2)),
-        UINT => Entry(0x70, Layout::Whole(4)),
-        INT => Entry(0x71, Layout::Whole(4)),
-        FLOAT => Entry(0x72, Layout::Whole(4)),
-        CHAR => Entry(0x73, Layout::Whole(4)),
-        DECIMAL_32 => Entry(0x74, Layout::Whole(4)),
-        ULONG => Entry(0x80, Layout::Whole(8)),
-        LONG => Entry(0x81, Layout::Whole(8)),
-        DOUBLE => Entry(0x82, Layout::Whole(8)),
-        TIMESTAMP => Entry(0x83, Layout::Whole(8)),
-        DECIMAL_64 => Entry(0x84, Layout::Whole(8)),
-        DECIMAL_128 => Entry(0x94, Layout::Raw(16)),
-        UUID => Entry(0x98, Layout::Raw(16)),
-        BINARY_8 => Entry(0xb0, Layout::Sized(1)),
-        STRING_8 => Entry(0xb1, Layout::Sized(1)),
-        SYMBOL_8 => Entry(0xb3, Layout::Sized(1)),
-        BINARY_32 => Entry(0xb0, Layout::Sized(4)),
-        STRING_32 => Entry(0xb1, Layout::Sized(4)),
-        SYMBOL_32 => Entry(0xb3, Layout::Sized(4)),
-        LIST_8 => Entry(0xd0, Layout::Compound(Compound8::COUNT_WIDTH)),
-        MAP_8 => Entry(0xd1, Layout::Compound(Compound8::COUNT_WIDTH)),
-        LIST_32 => Entry(0xd0, Layout::Compound(Compound32::COUNT_WIDTH)),
-        MAP_32 => Entry(0xd1, Layout::Compound(Compound32::COUNT_WIDTH)),
-        ARRAY_8 => Entry(0xf0, Layout::Array(Compound8::COUNT_WIDTH)),
-        ARRAY_32 => Entry(0xf0, Layout::Array(Compound32::COUNT_WIDTH)),
-        _ => Entry(0, Layout::Unknown),
+        DESCRIBED => reads_to(Kind::Described, Layout::Described),
+        NULL => reads_to(Kind::Null, Layout::Whole(0)),
+        TRUE => reads_to(Kind::Boolean, Layout::Constant(1)),
+        FALSE => reads_to(Kind::Boolean, Layout::Constant(0)),
+        UINT_0 => reads_to(Kind::Uint, Layout::Constant(0)),
+        ULONG_0 => reads_to(Kind::Ulong, Layout::Constant(0)),
+        LIST_0 => reads_to(Kind::List, Layout::Constant(0)),
+        UBYTE => reads_to(Kind::Ubyte, Layout::Whole(1)),
+        BYTE => reads_to(Kind::Byte, Layout::Whole(1)),
+        SMALL_UINT => reads_to(Kind::Uint, Layout::Whole(1)),
+        SMALL_ULONG => reads_to(Kind::Ulong, Layout::Whole(1)),
+        SMALL_INT => reads_to(Kind::Int, Layout::Small(4)),
+        SMALL_LONG => reads_to(Kind::Long, Layout::Small(8)),
+        BOOLEAN => reads_to(Kind::Boolean, Layout::Whole(1)),
+        USHORT => reads_to(Kind::Ushort, Layout::Whole(2)),
+        SHORT => reads_to(Kind::Short, Layout::Whole(2)),
+        UINT => reads_to(Kind::Uint, Layout::Whole(4)),
+        INT => reads_to(Kind::Int, Layout::Whole(4)),
+        FLOAT => reads_to(Kind::Float, Layout::Whole(4)),
+        CHAR => reads_to(Kind::Char, Layout::Whole(4)),
+        DECIMAL_32 => reads_to(Kind::Decimal32, Layout::Whole(4)),
+        ULONG => reads_to(Kind::Ulong, Layout::Whole(8)),
+        LONG => reads_to(Kind::Long, Layout::Whole(8)),
+        DOUBLE => reads_to(Kind::Double, Layout::Whole(8)),
+        TIMESTAMP => reads_to(Kind::Timestamp, Layout::Whole(8)),
+        DECIMAL_64 => reads_to(Kind::Decimal64, Layout::Whole(8)),
+        DECIMAL_128 => reads_to(Kind::Decimal128, Layout::Raw(16)),
+        UUID => reads_to(Kind::Uuid, Layout::Raw(16)),
+        BINARY_8 => reads_to(Kind::Binary, Layout::Sized(1)),
+        STRING_8 => reads_to(Kind::String, Layout::Sized(1)),
+        SYMBOL_8 => reads_to(Kind::Symbol, Layout::Sized(1)),
+        BINARY_32 => reads_to(Kind::Binary, Layout::Sized(4)),
+        STRING_32 => reads_to(Kind::String, Layout::Sized(4)),
+        SYMBOL_32 => reads_to(Kind::Symbol, Layout::Sized(4)),
+        LIST_8 => reads_to(Kind::List, Layout::Compound(Compound8::COUNT_WIDTH)),
+        MAP_8 => reads_to(Kind::Map, Layout::Compound(Compound8::COUNT_WIDTH)),
+        LIST_32 => reads_to(Kind::List, Layout::Compound(Compound32::COUNT_WIDTH)),
+        MAP_32 => reads_to(Kind::Map, Layout::Compound(Compound32::COUNT_WIDTH)),
+        ARRAY_8 => reads_to(Kind::Array, Layout::Array(Compound8::COUNT_WIDTH)),
+        ARRAY_32 => reads_to(Kind::Array, Layout::Array(Compound32::COUNT_WIDTH)),
+        _ => None,
     }
 }

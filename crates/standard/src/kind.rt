@@ -1,11 +1,101 @@
 // The 25 kinds of rows, and what a row of each holds (docs/FORMAT.md, 2.2).
 ghost use Rattle.std.specs.Prelude.{◌≡◌, ◌-◌, ◌^◌, ◌≤◌, ltb};
-ghost use Rattle.standard.specs.Kinds.{style_of, is_kind, member, nameable, fair};
+ghost use Rattle.standard.specs.Kinds.{style_of, member, nameable, fair, count_in, kind_in};
 ghost use Rattle.standard.specs.Encode.{fits_byte};
 ghost use Rattle.standard.specs.Table.{ranged, letters, children};
-ghost use Rattle.standard.specs.InCode.{style_is};
+ghost use Rattle.standard.specs.InCode.{kind_is, style_is, Names};
 
 use crate::format_code;
+use std::error::Error;
+use std::fmt;
+
+/// A kind of row. Its number stands in the row, and is the format code of its wide form.
+#[derive(Clone, Copy, Debug, PartialEq, Eq)]
+pub enum Kind {
+    Described = 0x00,
+    Null = 0x40,
+    Ubyte = 0x50,
+    Byte = 0x51,
+    Boolean = 0x56,
+    Ushort = 0x60,
+    Short = 0x61,
+    Uint = 0x70,
+    Int = 0x71,
+    Float = 0x72,
+    Char = 0x73,
+    Decimal32 = 0x74,
+    Ulong = 0x80,
+    Long = 0x81,
+    Double = 0x82,
+    Timestamp = 0x83,
+    Decimal64 = 0x84,
+    Decimal128 = 0x94,
+    Uuid = 0x98,
+    Binary = 0xb0,
+    String = 0xb1,
+    Symbol = 0xb3,
+    List = 0xd0,
+    Map = 0xd1,
+    Array = 0xf0,
+}
+
+/// A number that is none of the 25 kinds.
+#[derive(Clone, Copy, Debug, PartialEq, Eq)]
+pub struct UnknownKind;
+
+impl fmt::Display for UnknownKind {
+    fn fmt<W: fmt::Write>(&self, f: &mut fmt::Formatter<W>) -> fmt::Result {
+        f.write_str("no kind has that number")
+    }
+}
+
+impl Error for UnknownKind {}
+
+impl TryFrom<u64> for Kind {
+    type Error = UnknownKind;
+
+    ghost try_from_gives = { Names };
+
+    #[tactic(auto, unfolding(crate::specs::Kinds::style_of, crate::specs::Kinds::kinds, crate::specs::Choose::lookup, crate::specs::Kinds::is_kind))]
+    fn try_from(number: u64) -> Result<Self, UnknownKind> {
+        match number {
+            0x00 => Ok(Kind::Described),
+            0x40 => Ok(Kind::Null),
+            0x50 => Ok(Kind::Ubyte),
+            0x51 => Ok(Kind::Byte),
+            0x56 => Ok(Kind::Boolean),
+            0x60 => Ok(Kind::Ushort),
+            0x61 => Ok(Kind::Short),
+            0x70 => Ok(Kind::Uint),
+            0x71 => Ok(Kind::Int),
+            0x72 => Ok(Kind::Float),
+            0x73 => Ok(Kind::Char),
+            0x74 => Ok(Kind::Decimal32),
+            0x80 => Ok(Kind::Ulong),
+            0x81 => Ok(Kind::Long),
+            0x82 => Ok(Kind::Double),
+            0x83 => Ok(Kind::Timestamp),
+            0x84 => Ok(Kind::Decimal64),
+            0x94 => Ok(Kind::Decimal128),
+            0x98 => Ok(Kind::Uuid),
+            0xb0 => Ok(Kind::Binary),
+            0xb1 => Ok(Kind::String),
+            0xb3 => Ok(Kind::Symbol),
+            0xd0 => Ok(Kind::List),
+            0xd1 => Ok(Kind::Map),
+            0xf0 => Ok(Kind::Array),
+            _ => Err(UnknownKind),
+        }
+    }
+}
+
+impl From<Kind> for u64 {
+    ghost from_gives = { λ kind n. n ≡ kind_is kind };
+
+    fn from(kind: Kind) -> u64 {
+        kind as u64
+    }
+}
 
 // The shorter forms of a number, by their format codes.
 #[derive(Clone, Copy)]
@@ -22,8 +112,6 @@ pub enum Short {
 // What a row holds. The format code of the wide form is the kind itself; the codes of shorter forms are named here.
 #[derive(Clone, Copy)]
 pub enum Style {
-    // None of the 25 kinds.
-    Foreign,
     // A number of that many bytes.
     Numbered(Short, usize),
     // Number 0, and that many bytes of text.
@@ -38,70 +126,72 @@ pub enum Style {
     Describing,
 }
 
-#[tactic(auto, unfolding(crate::specs::Kinds::style_of, crate::specs::Kinds::kinds, crate::specs::Choose::lookup, crate::specs::InCode::style_is))]
-pub fn style_of(kind: u64) -> Style
-    ensures { style_is result ≡ style_of kind }
-{
-    match kind {
-        0x00 => Style::Describing,
-        0x40 => Style::Numbered(Short::Never, 0),
-        0x50 => Style::Numbered(Short::Never, 1),
-        0x51 => Style::Numbered(Short::Never, 1),
-        0x56 => Style::Numbered(Short::Flag(format_code::TRUE, format_code::FALSE), 1),
-        0x60 => Style::Numbered(Short::Never, 2),
-        0x61 => Style::Numbered(Short::Never, 2),
-        0x70 => Style::Numbered(
-            Short::Unsigned(format_code::UINT_0, format_code::SMALL_UINT),
-            4,
-        ),
-        0x71 => Style::Numbered(Short::Signed(format_code::SMALL_INT), 4),
-        0x72 => Style::Numbered(Short::Never, 4),
-        0x73 => Style::Numbered(Short::Never, 4),
-        0x74 => Style::Numbered(Short::Never, 4),
-        0x80 => Style::Numbered(
-            Short::Unsigned(format_code::ULONG_0, format_code::SMALL_ULONG),
-            8,
-        ),
-        0x81 => Style::Numbered(Short::Signed(format_code::SMALL_LONG), 8),
-        0x82 => Style::Numbered(Short::Never, 8),
-        0x83 => Style::Numbered(Short::Never, 8),
-        0x84 => Style::Numbered(Short::Never, 8),
-        0x94 => Style::Blob(16),
-        0x98 => Style::Blob(16),
-        0xb0 => Style::Lettered(format_code::BINARY_8),
-        0xb1 => Style::Lettered(format_code::STRING_8),
-        0xb3 => Style::Lettered(format_code::SYMBOL_8),
-        0xd0 => Style::Listed(format_code::LIST_0, format_code::LIST_8),
-        0xd1 => Style::Mapped(format_code::MAP_8),
-        0xf0 => Style::Arrayed(format_code::ARRAY_8),
-        _ => Style::Foreign,
-    }
-}
-
 // The writer's limit on lengths, counts and bytes.
 pub const MOST: u64 = 0x10_0000;
 
 // The number of an array's row is its count, and its elements' kind times this.
 pub const KIND_UNIT: u64 = 0x1_0000_0000;
 
-// Is a boolean 0 or 1, and a char no surrogate and at most 0x10ffff. Every other number is fair.
-#[tactic(auto, unfolding(crate::specs::Kinds::fair))]
-pub fn is_fair(kind: u64, number: u64) -> bool
-    ensures { result ≡ fair kind number }
-{
-    if kind == 0x56 {
-        return number <= 1;
-    }
-    if kind == 0x73 {
-        if number <= 0xd7ff {
-            return true;
+impl Kind {
+    // What a row of this kind holds.
+    #[tactic(auto, unfolding(crate::specs::Kinds::style_of, crate::specs::Kinds::kinds, crate::specs::Choose::lookup, crate::specs::InCode::style_is))]
+    pub fn style(self) -> Style
+        ensures { style_is result ≡ style_of (kind_is self) }
+    {
+        match self {
+            Kind::Described => Style::Describing,
+            Kind::Null => Style::Numbered(Short::Never, 0),
+            Kind::Ubyte => Style::Numbered(Short::Never, 1),
+            Kind::Byte => Style::Numbered(Short::Never, 1),
+            Kind::Boolean => Style::Numbered(Short::Flag(format_code::TRUE, format_code::FALSE), 1),
+            Kind::Ushort => Style::Numbered(Short::Never, 2),
+            Kind::Short => Style::Numbered(Short::Never, 2),
+            Kind::Uint => Style::Numbered(
+                Short::Unsigned(format_code::UINT_0, format_code::SMALL_UINT),
+                4,
+            ),
+            Kind::Int => Style::Numbered(Short::Signed(format_code::SMALL_INT), 4),
+            Kind::Float => Style::Numbered(Short::Never, 4),
+            Kind::Char => Style::Numbered(Short::Never, 4),
+            Kind::Decimal32 => Style::Numbered(Short::Never, 4),
+            Kind::Ulong => Style::Numbered(
+                Short::Unsigned(format_code::ULONG_0, format_code::SMALL_ULONG),
+                8,
+            ),
+            Kind::Long => Style::Numbered(Short::Signed(format_code::SMALL_LONG), 8),
+            Kind::Double => Style::Numbered(Short::Never, 8),
+            Kind::Timestamp => Style::Numbered(Short::Never, 8),
+            Kind::Decimal64 => Style::Numbered(Short::Never, 8),
+            Kind::Decimal128 => Style::Blob(16),
+            Kind::Uuid => Style::Blob(16),
+            Kind::Binary => Style::Lettered(format_code::BINARY_8),
+            Kind::String => Style::Lettered(format_code::STRING_8),
+            Kind::Symbol => Style::Lettered(format_code::SYMBOL_8),
+            Kind::List => Style::Listed(format_code::LIST_0, format_code::LIST_8),
+            Kind::Map => Style::Mapped(format_code::MAP_8),
+            Kind::Array => Style::Arrayed(format_code::ARRAY_8),
         }
-        if number < 0xe000 {
-            return false;
-        }
-        return number <= 0x10ffff;
     }
-    true
+
+    // May a row of this kind be an element of an array.
+    #[tactic(auto, unfolding(crate::specs::Kinds::style_of, crate::specs::Kinds::kinds, crate::specs::Choose::lookup, crate::specs::Kinds::member))]
+    pub fn is_member(self) -> bool
+        ensures { result ≡ member (style_of (kind_is self)) }
+    {
+        !matches!(self, Kind::Described | Kind::Null)
+    }
+
+    // Is a boolean 0 or 1, and a char no surrogate and at most 0x10ffff. Every other number is fair.
+    #[tactic(auto, unfolding(crate::specs::Kinds::fair))]
+    pub fn is_fair(self, number: u64) -> bool
+        ensures { result ≡ fair (kind_is self) number }
+    {
+        match self {
+            Kind::Boolean => number <= 1,
+            Kind::Char => number <= 0xd7ff || 0xe000 <= number && number <= 0x10ffff,
+            _ => true,
+        }
+    }
 }
 
 // Does a number fit so many bytes.
@@ -153,69 +243,44 @@ pub fn fits_byte(number: u64, width: usize) -> bool
     least_negative(width) <= number
 }
 
+// How many elements the number of an array's row counts.
+#[tactic(auto, unfolding(crate::specs::Kinds::count_in))]
+pub fn count_of_elements(number: u64) -> u64
+    ensures { result ≡ count_in number }
+{
+    number % KIND_UNIT
+}
+
+// The kind that it tells of them.
+#[tactic(auto, unfolding(crate::specs::Kinds::kind_in))]
+pub fn kind_of_elements(number: u64) -> Result<Kind, UnknownKind>
+    ensures { Names (kind_in number) result }
+{
+    Kind::try_from(number / KIND_UNIT)
+}
+
 // May the number of an array's row name that kind, as far as arrays can hold it: 0 names none, and what is no kind is refused for that.
-#[tactic(auto, unfolding(crate::specs::Kinds::nameable))]
+#[tactic(auto, unfolding(crate::specs::Kinds::nameable), using(crate::specs::Facts::known))]
 pub fn is_nameable(kind: u64) -> bool
     ensures { result ≡ nameable kind }
 {
-    if kind == 0 {
-        return true;
+    match Kind::try_from(kind) {
+        Ok(Kind::Described) => true,
+        Ok(kind) => kind.is_member(),
+        Err(UnknownKind) => true,
     }
-    let style = style_of(kind);
-    if style.is_kind() {
-        return style.is_member();
-    }
-    true
 }
 
 impl Style {
-    #[tactic(auto, unfolding(crate::specs::Kinds::is_kind, crate::specs::InCode::style_is))]
-    pub fn is_kind(self) -> bool
-        ensures { result ≡ is_kind (style_is self) }
-    {
-        match self {
-            Style::Foreign => false,
-            Style::Numbered(_, _) => true,
-            Style::Blob(_) => true,
-            Style::Lettered(_) => true,
-            Style::Listed(_, _) => true,
-            Style::Mapped(_) => true,
-            Style::Arrayed(_) => true,
-            Style::Describing => true,
-        }
-    }
-
-    // May a row of this style be an element of an array.
-    #[tactic(auto, unfolding(crate::specs::Kinds::member, crate::specs::InCode::style_is))]
-    pub fn is_member(self) -> bool
-        ensures { result ≡ member (style_is self) }
-    {
-        match self {
-            Style::Foreign => false,
-            Style::Numbered(_, width) => 1 <= width,
-            Style::Blob(width) => 1 <= width,
-            Style::Lettered(_) => true,
-            Style::Listed(_, _) => true,
-            Style::Mapped(_) => true,
-            Style::Arrayed(_) => true,
-            Style::Describing => false,
-        }
-    }
-
     // How many bytes of text belong to a row of this style.
     #[tactic(auto, unfolding(crate::specs::Table::letters, crate::specs::InCode::style_is))]
     pub fn letters(self, number: u64) -> u64
         ensures { result ≡ letters (style_is self) number }
     {
         match self {
-            Style::Foreign => 0,
-            Style::Numbered(_, _) => 0,
             Style::Blob(width) => width as u64,
             Style::Lettered(_) => number,
-            Style::Listed(_, _) => 0,
-            Style::Mapped(_) => 0,
-            Style::Arrayed(_) => 0,
-            Style::Describing => 0,
+            _ => 0,
         }
     }
 
@@ -225,44 +290,25 @@ impl Style {
         ensures { result ≡ children (style_is self) number }
     {
         match self {
-            Style::Foreign => 0,
-            Style::Numbered(_, _) => 0,
-            Style::Blob(_) => 0,
-            Style::Lettered(_) => 0,
-            Style::Listed(_, _) => number,
-            Style::Mapped(_) => number,
-            Style::Arrayed(_) => number % KIND_UNIT,
-            Style::Describing => number,
+            Style::Numbered(_, _) | Style::Blob(_) | Style::Lettered(_) => 0,
+            Style::Listed(_, _) | Style::Mapped(_) | Style::Describing => number,
+            Style::Arrayed(_) => count_of_elements(number),
         }
     }
 
     // Is a number in the table's range for its kind, which is of this style.
-    #[tactic(auto, unfolding(crate::specs::Table::ranged, crate::specs::Kinds::count_in, crate::specs::Kinds::kind_in, crate::specs::InCode::style_is))]
-    pub fn takes(self, kind: u64, number: u64) -> bool
-        ensures { result ≡ ranged (style_is self) kind number }
+    #[tactic(auto, unfolding(crate::specs::Table::ranged, crate::specs::Kinds::count_in, crate::specs::Kinds::kind_in, crate::specs::InCode::style_is), using(crate::specs::Facts::strange))]
+    pub fn takes(self, kind: Kind, number: u64) -> bool
+        ensures { result ≡ ranged (style_is self) (kind_is kind) number }
     {
         match self {
-            Style::Foreign => false,
-            Style::Numbered(_, width) => {
-                if fits_width(number, width) {
-                    return is_fair(kind, number);
-                }
-                false
-            }
+            Style::Numbered(_, width) => fits_width(number, width) && kind.is_fair(number),
             Style::Blob(_) => number == 0,
-            Style::Lettered(_) => number <= MOST,
-            Style::Listed(_, _) => number <= MOST,
-            Style::Mapped(_) => {
-                if number <= MOST {
-                    return number % 2 == 0;
-                }
-                false
-            }
+            Style::Lettered(_) | Style::Listed(_, _) => number <= MOST,
+            Style::Mapped(_) => number <= MOST && number % 2 == 0,
             Style::Arrayed(_) => {
-                if number % KIND_UNIT <= MOST {
-                    return style_of(number / KIND_UNIT).is_member();
-                }
-                false
+                count_of_elements(number) <= MOST
+                    && kind_of_elements(number).is_ok_and(|kind| kind.is_member())
             }
             Style::Describing => number == 2,
         }

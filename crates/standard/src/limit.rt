@@ -14,8 +14,5 @@ pub const DEFAULT: usize = 16;
 pub fn is_in_force(limit: usize) -> bool
     ensures { result ≡ in_force limit }
 {
-    if limit < LEAST {
-        return false;
-    }
-    limit <= MOST
+    (LEAST..=MOST).contains(&limit)
 }

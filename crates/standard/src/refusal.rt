@@ -1,40 +1,54 @@
 // The refusals of the format (docs/FORMAT.md, 5).
+ghost use Rattle.std.specs.Prelude.{◌≡◌};
+ghost use Rattle.standard.specs.InCode.{reason_is};
 
-// A row is missing, or rows are left.
-pub const ROWS_AMISS: usize = 1;
+use std::error::Error;
+use std::fmt;
 
-pub const KIND_UNKNOWN: usize = 2;
+/// Why something was refused.
+#[derive(Clone, Copy, Debug, PartialEq, Eq)]
+pub enum Reason {
+    // A row is missing, or rows are left.
+    RowsAmiss = 1,
+    KindUnknown,
+    TooDeep,
+    ElementUnfit,
+    NumberOutside,
+    // The text is too short or bad, or some is left.
+    TextAmiss,
+    TooLong,
+    OutputShort,
+    InputShort,
+    CodeUnknown,
+    PayloadBad,
+    // A size is too small or too large for what it counts, or a map's count is odd.
+    SizeAmiss,
+    RowsShort,
+    TextShort,
+    // The level limit is 0 or more than 32.
+    LimitOutside,
+}
 
-pub const TOO_DEEP: usize = 3;
+impl Reason {
+    /// Its number in docs/FORMAT.md, 5.1.
+    pub fn number(self) -> u64
+        ensures { result ≡ reason_is self }
+    {
+        self as u64
+    }
+}
 
-pub const ELEMENT_UNFIT: usize = 4;
-
-pub const NUMBER_OUTSIDE: usize = 5;
-// The text is too short or bad, or some is left.
-pub const TEXT_AMISS: usize = 6;
-
-pub const TOO_LONG: usize = 7;
-
-pub const OUTPUT_SHORT: usize = 8;
-
-pub const INPUT_SHORT: usize = 9;
-
-pub const CODE_UNKNOWN: usize = 10;
-
-pub const PAYLOAD_BAD: usize = 11;
-// A size is too small or too large for what it counts, or a map's count is odd.
-pub const SIZE_AMISS: usize = 12;
-
-pub const ROWS_SHORT: usize = 13;
-
-pub const TEXT_SHORT: usize = 14;
-
-// The level limit is 0 or more than 32.
-pub const LIMIT_OUTSIDE: usize = 15;
-
-// Why something was refused, and where: at a row in writing, at an offset in reading.
-#[derive(Clone, Copy)]
+/// Why something was refused, and where: at a row in writing, at an offset in reading.
+#[derive(Clone, Copy, Debug, PartialEq, Eq)]
 pub struct Refusal {
-    pub number: usize,
+    pub reason: Reason,
     pub place: usize,
 }
+
+impl fmt::Display for Refusal {
+    fn fmt<W: fmt::Write>(&self, f: &mut fmt::Formatter<W>) -> fmt::Result {
+        write!(f, "refusal {} at {}", self.reason.number(), self.place)
+    }
+}
+
+impl Error for Refusal {}
