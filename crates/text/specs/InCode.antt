@@ -1,8 +1,7 @@
--- What the code's own fault says, in the terms of the definitions.
+-- What the fault that the code finds says, in the terms of the definitions: its place, or that there is none.
+use Rattle.std.specs.Prelude.{ℕ, Option, Some, None}
 use Rattle.standard.specs.Text
-use Rattle.text.specs.declared.Fault.{Fault}
-use Rattle.text.specs.declared.Fault.TheVariants.{Flawless, At}
 
-abbrev pub fault_is : Fault → Text.Fault
-fault_is Flawless = Text.flawless
-fault_is (At p) = Text.fault p
+abbrev pub fault_is : Option ℕ → Text.Fault
+fault_is None = Text.flawless
+fault_is (Some p) = Text.fault p

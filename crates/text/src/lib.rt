@@ -1,46 +1,40 @@
 // The text check: RFC 3629 for strings, ASCII for symbols (docs/FORMAT.md, 4.6).
 #![tactic(auto)]
 
-ghost use Rattle.std.specs.Prelude.{◌≡◌, [], ◌∷◌, ◌+◌, ◌-◌, ◌≤◌, min, leb, take, drop};
+ghost use Rattle.std.specs.Prelude.{◌≡◌, [], ◌∷◌, ◌+◌, ◌-◌, leb, take, drop};
 ghost use Rattle.standard.specs.Text.{from◌to◌, tail, utf8, ascii, lead_in, fault_in};
 ghost use Rattle.standard.specs.Kinds.{flaw, good_length};
+ghost use Rattle.standard.specs.InCode.{kind_is};
 ghost use Rattle.text.specs.InCode.{fault_is};
 ghost use Rattle.text.specs.Steps.{lead_is, stand, width_in, ascii_run};
 
-// The first byte at which, after correct sequences from the start, none begins.
-#[derive(Clone, Copy)]
-pub enum Fault {
-    Flawless,
-    At(usize),
-}
+use standard::kind::Kind;
 
 // How many bytes the sequence has that a first byte begins.
 // The second is from lo to hi, where those are named; all others are tails, 0x80 to 0xbf.
 #[derive(Clone, Copy)]
 enum Lead {
-    // It begins none.
-    Stray,
     One,
     Two,
     Three { lo: u8, hi: u8 },
     Four { lo: u8, hi: u8 },
 }
 
-// The table of RFC 3629, section 4.
-fn lead_of(b: u8) -> Lead
-    ensures { lead_is result ≡ lead_in utf8 b }
+// The table of RFC 3629, section 4. None for a byte that begins no sequence.
+fn lead_of(byte: u8) -> Option<Lead>
+    ensures { lead_is result ≡ lead_in utf8 byte }
 {
-    match b {
-        0x00..=0x7f => Lead::One,
-        0xc2..=0xdf => Lead::Two,
-        0xe0 => Lead::Three { lo: 0xa0, hi: 0xbf },
-        0xe1..=0xec => Lead::Three { lo: 0x80, hi: 0xbf },
-        0xed => Lead::Three { lo: 0x80, hi: 0x9f },
-        0xee..=0xef => Lead::Three { lo: 0x80, hi: 0xbf },
-        0xf0 => Lead::Four { lo: 0x90, hi: 0xbf },
-        0xf1..=0xf3 => Lead::Four { lo: 0x80, hi: 0xbf },
-        0xf4 => Lead::Four { lo: 0x80, hi: 0x8f },
-        _ => Lead::Stray,
+    match byte {
+        0x00..=0x7f => Some(Lead::One),
+        0xc2..=0xdf => Some(Lead::Two),
+        0xe0 => Some(Lead::Three { lo: 0xa0, hi: 0xbf }),
+        0xe1..=0xec => Some(Lead::Three { lo: 0x80, hi: 0xbf }),
+        0xed => Some(Lead::Three { lo: 0x80, hi: 0x9f }),
+        0xee..=0xef => Some(Lead::Three { lo: 0x80, hi: 0xbf }),
+        0xf0 => Some(Lead::Four { lo: 0x90, hi: 0xbf }),
+        0xf1..=0xf3 => Some(Lead::Four { lo: 0x80, hi: 0xbf }),
+        0xf4 => Some(Lead::Four { lo: 0x80, hi: 0x8f }),
+        _ => None,
     }
 }
 
@@ -48,10 +42,7 @@ fn lead_of(b: u8) -> Lead
 fn byte_at(text: &[u8], at: usize, lo: u8, hi: u8) -> bool
     ensures { result ≡ stand (from◌to◌ lo hi ∷ []) (drop at text.now) }
 {
-    if text.len() <= at {
-        return false;
-    }
-    lo <= text[at] && text[at] <= hi
+    text.get(at).is_some_and(|byte| lo <= *byte && *byte <= hi)
 }
 
 // UTF8-tail.
@@ -61,32 +52,23 @@ fn tail_at(text: &[u8], at: usize) -> bool
     byte_at(text, at, 0x80, 0xbf)
 }
 
-// How many bytes the sequence has that stands there; 0 where none does.
-fn sequence_at(text: &[u8], at: usize) -> usize
+// How many bytes the sequence has that stands there, if one does.
+fn sequence_at(text: &[u8], at: usize) -> Option<usize>
     ensures { result ≡ width_in utf8 (drop at text.now) }
 {
-    if text.len() <= at {
-        return 0;
-    }
-    match lead_of(text[at]) {
-        Lead::Stray => 0,
-        Lead::One => 1,
-        Lead::Two => if tail_at(text, at + 1) { 2 } else { 0 },
-        Lead::Three { lo, hi } => {
-            if byte_at(text, at + 1, lo, hi) && tail_at(text, at + 2) {
-                3
-            } else {
-                0
-            }
-        }
+    let lead = lead_of(*text.get(at)?)?;
+    let (stands, width) = match lead {
+        Lead::One => (true, 1),
+        Lead::Two => (tail_at(text, at + 1), 2),
+        Lead::Three { lo, hi } => (byte_at(text, at + 1, lo, hi) && tail_at(text, at + 2), 3),
         Lead::Four { lo, hi } => {
-            if byte_at(text, at + 1, lo, hi) && tail_at(text, at + 2) && tail_at(text, at + 3) {
-                4
-            } else {
-                0
-            }
+            (
+                byte_at(text, at + 1, lo, hi) && tail_at(text, at + 2) && tail_at(text, at + 3),
+                4,
+            )
         }
-    }
+    };
+    stands.then_some(width)
 }
 
 // Whether 16 bytes of ASCII stand there: their highest tells.
@@ -134,8 +116,8 @@ fn past_ascii(text: &[u8], start: usize) -> usize
     at
 }
 
-// The first fault of a string.
-pub fn utf8_fault(text: &[u8]) -> Fault
+// The first fault of a string: the first byte at which, after correct sequences from the start, none begins.
+pub fn utf8_fault(text: &[u8]) -> Option<usize>
     ensures { fault_is result ≡ fault_in utf8 text.now }
 {
     let mut at: usize = 0;
@@ -143,57 +125,41 @@ pub fn utf8_fault(text: &[u8]) -> Fault
         if text[at] < 0x80 {
             at = past_ascii(text, at);
         } else {
-            let width = sequence_at(text, at);
-            if width == 0 {
-                return Fault::At(at);
+            match sequence_at(text, at) {
+                Some(width) => at += width,
+                None => return Some(at),
             }
-            at += width;
         }
     }
-    Fault::Flawless
+    None
 }
 
 // The first fault of a symbol.
-pub fn ascii_fault(text: &[u8]) -> Fault
+pub fn ascii_fault(text: &[u8]) -> Option<usize>
     ensures { fault_is result ≡ fault_in ascii text.now }
 {
     let end = past_ascii(text, 0);
-    if end < text.len() {
-        Fault::At(end)
-    } else {
-        Fault::Flawless
-    }
+    (end < text.len()).then_some(end)
 }
 
 // The first fault of a row's text: strings are UTF-8, symbols ASCII, and all other text is any bytes.
 #[tactic(auto, unfolding(standard::specs::Kinds::flaw))]
-pub fn flaw_of(kind: u64, text: &[u8]) -> Fault
-    ensures { fault_is result ≡ flaw kind text.now }
+pub fn flaw_of(kind: Kind, text: &[u8]) -> Option<usize>
+    ensures { fault_is result ≡ flaw (kind_is kind) text.now }
 {
-    if kind == 0xb1 {
-        return utf8_fault(text);
+    match kind {
+        Kind::String => utf8_fault(text),
+        Kind::Symbol => ascii_fault(text),
+        _ => None,
     }
-    if kind == 0xb3 {
-        return ascii_fault(text);
-    }
-    Fault::Flawless
-}
-
-fn lesser(a: usize, b: usize) -> usize
-    ensures { result ≡ min a b }
-{
-    if b < a {
-        return b;
-    }
-    a
 }
 
 // Of so many bytes from `start` on, which are a row's text of that kind, how many are good: all, or those before the first fault.
 // Where the text has fewer bytes there, it is of those.
 // 16 bytes of ASCII are good for every kind: where they stand there, a short text needs no look at its own end.
 #[tactic(auto, using(crate::proofs::Parts::block_good))]
-pub fn good_length(kind: u64, text: &[u8], start: usize, count: usize) -> usize
-    ensures { result ≡ good_length kind (take count (drop start text.now)) }
+pub fn good_length(kind: Kind, text: &[u8], start: usize, count: usize) -> usize
+    ensures { result ≡ good_length (kind_is kind) (take count (drop start text.now)) }
 {
     if count <= 16 && ascii_block(text, start) {
         return count;
@@ -201,9 +167,6 @@ pub fn good_length(kind: u64, text: &[u8], start: usize, count: usize) -> usize
     if text.len() < start {
         return 0;
     }
-    let length = lesser(count, text.len() - start);
-    match flaw_of(kind, &text[start..start + length]) {
-        Fault::Flawless => length,
-        Fault::At(place) => place,
-    }
+    let length = count.min(text.len() - start);
+    flaw_of(kind, &text[start..start + length]).unwrap_or(length)
 }
