@@ -20,7 +20,7 @@ use Rattle.standard.specs.Encode
 use Rattle.standard.specs.Outcomes
 use Rattle.standard.specs.Codes.{is_code}
 use Rattle.standard.specs.InCode.{reason_is, kind_is, Names, layout_is, entry_is, style_is}
-use Rattle.standard.specs.Facts.{same_reason, same_kind, known}
+use Rattle.standard.specs.Facts.{same_kind, known}
 use Rattle.standard.specs.declared.refusal.Reason.{Reason}
 use Rattle.standard.specs.declared.kind.Kind.{Kind}
 use Rattle.standard.specs.declared.kind.UnknownKind.{UnknownKind}

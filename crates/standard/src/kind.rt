@@ -195,6 +195,7 @@ impl Kind {
 }
 
 // Does a number fit so many bytes.
+#[tactic(auto, using(crate::proofs::Widths::wide_enough))]
 pub fn fits_width(number: u64, width: usize) -> bool
     ensures { result ≡ ltb number (256 ^ width) }
 {
@@ -207,7 +208,7 @@ pub fn fits_width(number: u64, width: usize) -> bool
         5 => number < 0x100_0000_0000,
         6 => number < 0x1_0000_0000_0000,
         7 => number < 0x100_0000_0000_0000,
-        _ => true,
+        8.. => true,
     }
 }
 
@@ -225,22 +226,16 @@ fn least_negative(width: usize) -> u64
         5 => 0xff_ffff_ff80,
         6 => 0xffff_ffff_ff80,
         7 => 0xff_ffff_ffff_ff80,
-        _ => 0xffff_ffff_ffff_ff80,
+        8.. => 0xffff_ffff_ffff_ff80,
     }
 }
 
 // Does a number of so many bytes, two's complement, fit one byte: from −128 to 127.
-#[tactic(auto, unfolding(crate::specs::Encode::fits_byte))]
+#[tactic(auto, unfolding(crate::specs::Encode::fits_byte), using(crate::proofs::Widths::too_wide))]
 pub fn fits_byte(number: u64, width: usize) -> bool
     ensures { result ≡ fits_byte width number }
 {
-    if number < 128 {
-        return true;
-    }
-    if 8 < width {
-        return false;
-    }
-    least_negative(width) <= number
+    number < 128 || width <= 8 && least_negative(width) <= number
 }
 
 // How many elements the number of an array's row counts.
