@@ -12,5 +12,5 @@ mod number;
 mod reading;
 pub mod walker;
 
-pub use measuring::{Extent, Measured, measure, measure_within};
+pub use measuring::{Extent, measure, measure_within};
 pub use reading::{read, read_within};
