@@ -1,10 +1,15 @@
 -- What the walker hands out, and where it is afterwards (docs/FORMAT.md, 7): all by what the step at its place is (standard/specs/Outcomes.antt).
-use Rattle.std.specs.Prelude.{ℕ, ◌+◌, ◌≤◌, ◌≡◌, List, [], take, drop}
+use Rattle.std.specs.Prelude.{ℕ, ◌+◌, ◌≤◌, ◌≡◌, List, [], Option, Some, None, Result, Ok, Err, length, take, drop}
 use Rattle.std.specs.Borrow.{Bor}
+use Rattle.standard.specs.Answer as answer
 use Rattle.standard.specs.Outcomes.{Step, end, part, refused, Stepping, step}
-use Rattle.reader.specs.InCode.{step_is}
+use Rattle.standard.specs.InCode.{reason_is}
+use Rattle.standard.specs.declared.refusal.Refusal.{Refusal}
 use Rattle.reader.specs.declared.walker.Walker.{Walker}
-use Rattle.reader.specs.declared.walker.Next.{Next}
+
+-- what a call of a walker gives
+abbrev pub Next : Type 0
+Next = Option (Result (Bor (List ℕ)) Refusal)
 
 -- a walker at the beginning of bytes
 abbrev pub fresh : (limit : ℕ) → Bor (List ℕ) → Walker
@@ -37,8 +42,20 @@ pub record Part (b : Bor (List ℕ)) (s : Step) (p : Bor (List ℕ)) : Type 0 wh
 abbrev pub step_of : Walker → Stepping
 step_of w = step w.limit w.bytes.now w.at
 
+-- which step it was: a value begins at the walker's place, and is as long as its bytes
+abbrev pub next_is : Walker → Next → Step
+next_is w None = end
+next_is w (Some (Ok p)) = part w.at (length p.now)
+next_is w (Some (Err f)) = refused (reason_is f.reason) (answer.at f.place)
+
+-- the bytes that it hands out are that part of b
+abbrev pub Handed : Bor (List ℕ) → Step → Next → Type 0
+Handed b s None = Unit {0}
+Handed b s (Some (Ok p)) = Part b s p
+Handed b s (Some (Err f)) = Unit {0}
+
 -- what a walker hands out, and the walker afterwards
-pub record NextOf (walker after : Walker) (next : Next) : Type 0 where
-  pub answer : step_is next.answer ≡ (step_of walker).answer
-  pub value : Part walker.bytes (step_of walker).answer next.value
+pub record NextOf (walker : Walker) (next : Next) (after : Walker) : Type 0 where
+  pub answer : next_is walker next ≡ (step_of walker).answer
+  pub value : Handed walker.bytes (step_of walker).answer next
   pub moved : after ≡ record { bytes = walker.bytes; at = (step_of walker).at; limit = walker.limit }

@@ -6,6 +6,7 @@
 // What stands behind the value is not looked at.
 #![tactic(auto)]
 
+mod due;
 mod filling;
 mod measuring;
 mod number;

@@ -3,28 +3,12 @@ ghost use Rattle.std.specs.Prelude.{◌≡◌, ◌+◌, ◌^◌, ◌≤◌, ◌<
 ghost use Rattle.standard.specs.Bytes.{unbe};
 ghost use Rattle.reader.specs.Entries.{narrow, usual};
 
-pub(crate) fn byte(x: u8) -> u64
-    ensures { (result ≡ x) × (result < 256) }
+// So many bytes from a place on.
+fn part<const N: usize>(bytes: &[u8], at: usize) -> [u8; N]
+    requires { at + N ≤ length bytes.now }
+    ensures { result ≡ take N (drop at bytes.now) }
 {
-    x as u64
-}
-
-fn two_at(bytes: &[u8], at: usize) -> u64
-    requires { at + 2 ≤ length bytes.now }
-    ensures { result ≡ unbe (take 2 (drop at bytes.now)) }
-{
-    byte(bytes[at]) * 256 + byte(bytes[at + 1])
-}
-
-fn four_at(bytes: &[u8], at: usize) -> u64
-    requires { at + 4 ≤ length bytes.now }
-    ensures { (result ≡ unbe (take 4 (drop at bytes.now))) × (result < 2 ^ 32) }
-{
-    let a = byte(bytes[at]);
-    let b = byte(bytes[at + 1]);
-    let c = byte(bytes[at + 2]);
-    let d = byte(bytes[at + 3]);
-    ((a * 256 + b) * 256 + c) * 256 + d
+    bytes[at..at + N].try_into().unwrap()
 }
 
 // A number of one byte or of four, as every length, size and count is.
@@ -33,9 +17,9 @@ pub(crate) fn narrow_at(bytes: &[u8], at: usize, width: usize) -> u64
     ensures { (result ≡ unbe (take width (drop at bytes.now))) × (result < 2 ^ 32) }
 {
     if width == 1 {
-        return byte(bytes[at]);
+        return u64::from(bytes[at]);
     }
-    four_at(bytes, at)
+    u64::from(u32::from_be_bytes(part(bytes, at)))
 }
 
 // A number of any width of the format.
@@ -43,14 +27,10 @@ pub(crate) fn number_at(bytes: &[u8], at: usize, width: usize) -> u64
     requires { T (usual width) × (at + width ≤ length bytes.now) }
     ensures { result ≡ unbe (take width (drop at bytes.now)) }
 {
-    if width == 0 {
-        return 0;
+    match width {
+        0 => 0,
+        2 => u64::from(u16::from_be_bytes(part(bytes, at))),
+        8 => u64::from_be_bytes(part(bytes, at)),
+        _ => narrow_at(bytes, at, width),
     }
-    if width == 2 {
-        return two_at(bytes, at);
-    }
-    if width == 8 {
-        return four_at(bytes, at) * 0x1_0000_0000 + four_at(bytes, at + 4);
-    }
-    narrow_at(bytes, at, width)
 }
