@@ -6,15 +6,17 @@ use mathlib.Core.Bool.{Bool, true, false, ◌&&◌}
 use native.Mathlib.Nat.{add-zero, zero-add, add-suc, suc-add}
 use native.Mathlib.Numerals.{add-one}
 use native.Mathlib.Omega.{arith}
-use borrow.Author.Tests.{le-leb, lt-leb, leb-true, leb-false}
-use lib.Dec.{leb, leb-zero, leb-suc-zero, leb-suc-suc}
+use borrow.Author.Tests.{le-leb, lt-leb, leb-true, leb-false, ltb-true, ltb-false}
+use lib.Dec.{leb, ltb, leb-zero, leb-suc-zero, leb-suc-suc}
 use lib.ListN.{length, drop, get_or, length-drop}
 use lib.Seq.{drop-cons, drop-drop, get_or-drop}
 use Rattle.standard.specs.Choose.{if}
-use Rattle.standard.specs.Text.{from◌to◌, sequence, Sequence, lead_in, ascii, fault, fault_due}
+use Rattle.standard.specs.Text.{from◌to◌, sequence, Sequence, lead_in, ascii, fault, fault_due, fault_in}
+use Rattle.std.specs.Bool.{then_some}
+use Rattle.text.specs.InCode.{fault_is}
 use Rattle.text.specs.Steps.{ascii_run}
 use Rattle.standard.specs.Facts.{T_true, if_case, none_due}
-use Rattle.text.proofs.Sequences.{fault_from}
+use Rattle.text.proofs.Sequences.{fault_from, ends}
 
 pub run_le : (bs : List ℕ) → ascii_run bs ≤ length bs
 unfolding ascii_run
@@ -116,3 +118,9 @@ run_stop text at h e = rw (drop-cons text at 0 h, leb-zero (get_or text at 0), a
     above : (y : Bool) → if y (suc (ascii_run (drop (at + 1) text))) 0 ≡ 0 → y ≡ false
     above true e = absurd (omega arith)
     above false e = refl
+
+-- what ends the run from the start is the end of the text, or its first fault
+pub run_only : (text : List ℕ) (end : ℕ) (b : Bool) → end ≡ 0 + ascii_run text → ltb end (length text) ≡ b → fault_is (then_some b end) ≡ fault_in ascii text
+unfolding ascii
+run_only text end true e t = sym (run_stop text end (ltb-true end (length text) t) (run_past text 0 end e)) ∙ run_skip [] text 0 end e
+run_only text end false e t = sym (ends ascii text end (ltb-false end (length text) t)) ∙ run_skip [] text 0 end e

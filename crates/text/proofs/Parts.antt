@@ -1,43 +1,18 @@
--- A part of a text: the bytes that it has, and that all are good where it is all ASCII.
-use Prim.Native.Nat.{ℕ, zero, suc, ◌+◌, ◌-◌, ◌≤◌, ◌<◌, min}
-use mathlib.Core.Path.{◌≡◌, refl, sym, ap, subst, ◌∙◌}
+-- A part of a text: all its bytes are good where it is all ASCII, and where it is behind the end.
+use Prim.Native.Nat.{ℕ, zero, suc, ◌≤◌, ◌<◌}
+use mathlib.Core.Path.{◌≡◌, refl, sym, subst, ◌∙◌}
 use mathlib.Core.List.{List, [], ◌∷◌}
 use mathlib.Core.Bool.{Bool, true}
 use native.Mathlib.Omega.{arith}
 use borrow.Author.Tests.{leb-true}
 use lib.Dec.{T, leb, leb-zero}
-use lib.ListN.{length, take, drop, length-drop, drop_of_length-le}
+use lib.ListN.{length, take, drop, drop_of_length-le}
 use lib.Seq.{take-nil, length-take-le}
 use Rattle.standard.specs.Text.{Sequence, utf8, ascii, lead_in, Fault, flawless, fault, is_flawless, fault_due, good_in}
 use Rattle.standard.specs.Kinds.{flaw, clean, good_length}
 use Rattle.standard.specs.Facts.{T_true, if_case, clean_nil, none_due}
 use Rattle.text.specs.Steps.{ascii_run}
 use Rattle.text.proofs.Ascii.{single, run_le}
-
-take_least : (m n : ℕ) (bs : List ℕ) → m ≡ min n (length bs) → take m bs ≡ take n bs
-take_least zero zero bs e = refl
-take_least zero (suc n) [] e = refl
-take_least zero (suc n) (b ∷ bs) e = absurd (omega arith)
-take_least (suc m) zero bs e = absurd (omega arith)
-take_least (suc m) (suc n) [] e = refl
-take_least (suc m) (suc n) (b ∷ bs) e = ap {B = List ℕ} (λ r. b ∷ r) (take_least m n bs (omega arith))
-
--- a part has so many bytes, or what is left of the text
-pub part_is : (text : List ℕ) (start count n : ℕ) → n ≡ min count (length text - start) → take (start + n - start) (drop start text) ≡ take count (drop start text)
-part_is text start count n e = take_least (start + n - start) count (drop start text) (rw length-drop (omega arith))
-
-pub part_length : (text : List ℕ) (start count n : ℕ) → n ≡ min count (length text - start) → n ≡ length (take count (drop start text))
-part_length text start count n e =
-    let i : start + n - start ≡ n = omega arith in
-    let h : n ≤ length (drop start text) = rw length-drop (omega arith) in
-    sym (length-take-le n (drop start text) h) ∙ ap length (rw i at (part_is text start count n e))
-
--- the good bytes of text without a fault, and of text with one
-pub flawless_good : (k : ℕ) (t : List ℕ) → flaw k t ≡ flawless → good_length k t ≡ length t
-flawless_good k t e = rw e
-
-pub fault_good : (k : ℕ) (t : List ℕ) (p : ℕ) → flaw k t ≡ fault p → good_length k t ≡ p
-fault_good k t p e = rw e
 
 clean_good : (k : ℕ) (t : List ℕ) → clean k t ≡ true → good_length k t ≡ length t
 clean_good k t = by (flaw k t)

@@ -1,6 +1,6 @@
 -- Text, a sequence at a time: laws of any list of sequences.
-use Prim.Native.Nat.{ℕ, zero, suc, ◌+◌, ◌-◌, ◌≤◌, suc-le-suc, ◌<◌}
-use mathlib.Core.Path.{◌≡◌, refl, sym, ap}
+use Prim.Native.Nat.{ℕ, suc, ◌+◌, ◌-◌, ◌≤◌, suc-le-suc, ◌<◌}
+use mathlib.Core.Path.{◌≡◌, refl, sym, ap, ◌∙◌}
 use mathlib.Core.List.{List, [], ◌∷◌}
 use mathlib.Core.Bool.{Bool, true, false, ◌&&◌}
 use native.Mathlib.Nat.{add-zero, add-suc, suc-add}
@@ -10,6 +10,10 @@ use borrow.Author.Tests.{lt-leb}
 use lib.Dec.{T}
 use lib.ListN.{length, drop, get_or, length-drop, drop_of_length-le}
 use lib.Seq.{drop-cons, drop-drop}
+use Rattle.std.specs.Prelude.{Option, Some, None, MatchOption}
+use denote.Ref.{Bor}
+use Rattle.std.specs.Bool.{then_some}
+use Rattle.std.specs.Slice.{IsGetResult}
 use Rattle.standard.specs.Choose.{if}
 use Rattle.standard.specs.Text.{Range, within, Sequence, Lead, stray, then, lead_in, Fault, flawless, fault, led, fault_due}
 use Rattle.text.specs.Steps.{stand, width_by, width_in}
@@ -35,12 +39,26 @@ below (s ∷ ss) b h = rw (lt-leb s.lead.lo b h.0) (below ss b h.1)
 
 -- What stands there
 
-pub stand_at : (r : Range) (text : List ℕ) (at : ℕ) → at < length text → stand (r ∷ []) (drop at text) ≡ within r (get_or text at 0)
+stand_at : (r : Range) (text : List ℕ) (at : ℕ) → at < length text → stand (r ∷ []) (drop at text) ≡ within r (get_or text at 0)
 unfolding stand
 stand_at r text at h = rw (drop-cons text at 0 h) (and_true (within r (get_or text at 0)))
 
+-- the byte that was got there
+got_within : (text : List ℕ) (at : ℕ) (x : Bor ℕ) → IsGetResult text at at (Some x) → at < length text
+got_within text at x g = g.3.0
+
+got_is : (text : List ℕ) (at : ℕ) (x : Bor ℕ) → IsGetResult text at at (Some x) → get_or text at 0 ≡ x.now
+got_is text at x g = sym (g.4 (omega arith) 0)
+
+-- it tells whether a byte of that range stands there
+pub stand_got : {E : Bor ℕ → Type 0} (r : Range) (text : List ℕ) (at : ℕ) (o : Option (Bor ℕ)) (b : Bool) → IsGetResult text at at o → MatchOption o (b ≡ false) E
+    → ((x : Bor ℕ) → E x → b ≡ within r x.now) → b ≡ stand (r ∷ []) (drop at text)
+unfolding stand
+stand_got r text at None b g m k = let h : length text ≤ at = g.3 in m ∙ simp (drop_of_length-le text h)
+stand_got r text at (Some x) b g m k = k x m ∙ ap (within r) (sym (got_is text at x g)) ∙ sym (stand_at r text at (got_within text at x g))
+
 -- a range, and those behind it a byte further
-pub stand_more : (r : Range) (rs : List Range) (text : List ℕ) (at n : ℕ) → stand (r ∷ rs) (drop (at + n) text) ≡ stand (r ∷ []) (drop (at + n) text) && stand rs (drop (at + suc n) text)
+stand_more : (r : Range) (rs : List Range) (text : List ℕ) (at n : ℕ) → stand (r ∷ rs) (drop (at + n) text) ≡ stand (r ∷ []) (drop (at + n) text) && stand rs (drop (at + suc n) text)
 unfolding stand
 stand_more r rs text at n = rw (add-suc at n, ← add-one (at + n), ← drop-drop 1 (at + n) text) (by_front (drop (at + n) text))
   where
@@ -48,13 +66,31 @@ stand_more r rs text at n = rw (add-suc at n, ← add-one (at + n), ← drop-dro
     by_front [] = refl
     by_front (b ∷ bs) = ap (λ x. x && stand rs bs) (sym (and_true (within r b)))
 
-pub width_at : (ss : List Sequence) (text : List ℕ) (at : ℕ) (l : Lead) → at < length text → lead_in ss (get_or text at 0) ≡ l → width_in ss (drop at text) ≡ width_by l (drop (at + 1) text)
-unfolding width_in
-width_at ss text at l h e = rw (add-one at, drop-cons text at 0 h, e)
+-- a range stands there, and then those behind it; or it does not
+pub stand_on : (r : Range) (rs : List Range) (text : List ℕ) (at n : ℕ) (b : Bool) → true ≡ stand (r ∷ []) (drop (at + n) text) → b ≡ stand rs (drop (at + suc n) text)
+    → b ≡ stand (r ∷ rs) (drop (at + n) text)
+stand_on r rs text at n b e f = rw (stand_more r rs text at n, ← e) f
 
-width_le : (ss : List Sequence) (bs : List ℕ) → width_in ss bs ≤ length bs
+pub stand_off : (r : Range) (rs : List Range) (text : List ℕ) (at n : ℕ) (b : Bool) → false ≡ stand (r ∷ []) (drop (at + n) text) → b ≡ false
+    → b ≡ stand (r ∷ rs) (drop (at + n) text)
+stand_off r rs text at n b e f = rw (stand_more r rs text at n, ← e) f
+
+-- the width, where a test finds the bytes that are due
+pub width_then : (rs : List Range) (bs : List ℕ) (b : Bool) → b ≡ stand rs bs → then_some b (suc (length rs)) ≡ width_by (then rs) bs
+width_then rs bs b e = rw (← e) (by_test b)
+  where
+    by_test : (y : Bool) → then_some y (suc (length rs)) ≡ if y (Some (suc (length rs))) None
+    by_test true = refl
+    by_test false = refl
+
+-- what the byte asks for decides
+pub width_got : (ss : List Sequence) (text : List ℕ) (at : ℕ) (x : Bor ℕ) (l : Lead) → IsGetResult text at at (Some x) → lead_in ss x.now ≡ l → width_by l (drop (at + 1) text) ≡ width_in ss (drop at text)
+unfolding width_in
+width_got ss text at x l g e = rw (add-one at, drop-cons text at 0 (got_within text at x g), got_is text at x g, e)
+
+width_le : (ss : List Sequence) (bs : List ℕ) → MatchOption (width_in ss bs) (Unit {0}) (λ w. (0 < w) × (w ≤ length bs))
 unfolding width_in stand
-width_le ss [] = omega arith
+width_le ss [] = tt
 width_le ss (b ∷ bs) = by_lead (lead_in ss b)
   where
     fits : (rs : List Range) (cs : List ℕ) → T (stand rs cs) → length rs ≤ length cs
@@ -62,12 +98,15 @@ width_le ss (b ∷ bs) = by_lead (lead_in ss b)
     fits (r ∷ rs) [] h = absurd h
     fits (r ∷ rs) (c ∷ cs) h = suc-le-suc (fits rs cs (and_right (within r c) (stand rs cs) h))
 
-    by_lead : (l : Lead) → width_by l bs ≤ suc (length bs)
-    by_lead stray = omega arith
-    by_lead (then rs) = if_case (λ n. n ≤ suc (length bs)) (stand rs bs) (suc (length rs)) 0 (λ h. suc-le-suc (fits rs bs h)) (λ h. omega arith)
+    by_lead : (l : Lead) → MatchOption (width_by l bs) (Unit {0}) (λ w. (0 < w) × (w ≤ suc (length bs)))
+    by_lead stray = tt
+    by_lead (then rs) = if_case (λ o. MatchOption o (Unit {0}) (λ w. (0 < w) × (w ≤ suc (length bs)))) (stand rs bs) (Some (suc (length rs))) None
+        (λ h. (omega arith, suc-le-suc (fits rs bs h)))
+        (λ h. tt)
 
-pub width_within : (ss : List Sequence) (text : List ℕ) (at : ℕ) → width_in ss (drop at text) ≤ length text - at
-width_within ss text at = omega (arith, width_le ss (drop at text), length-drop at text)
+-- a sequence takes a byte at least, and ends within the text
+pub width_within : (ss : List Sequence) (text : List ℕ) (at w : ℕ) → Some w ≡ width_in ss (drop at text) → (0 < w) × (w ≤ length text - at)
+width_within ss text at w e = rw (← length-drop at text) (rw (← e) at (width_le ss (drop at text)))
 
 -- Faults
 
@@ -79,22 +118,22 @@ due ss s p bs [] = rw add-zero
 due ss s p [] (r ∷ rs) = refl
 due ss s p (b ∷ bs) (r ∷ rs) = rw (if_and (within r b) (stand rs bs), add-suc p (length rs), ← suc-add p (length rs), due ss s (suc p) bs rs)
 
-abbrev stepped : (width : ℕ) → (place : ℕ) → Fault → Fault
-stepped zero p f = fault p
-stepped (suc w) p f = f
+abbrev stepped : (width : Option ℕ) → (place : ℕ) → (ℕ → Fault) → Fault
+stepped None p k = fault p
+stepped (Some w) p k = k w
 
 -- no sequence begins the bytes, or the fault is that of the bytes behind it
 step : (ss : List Sequence) (p b : ℕ) (bs : List ℕ)
-    → fault_due ss 0 p (b ∷ bs) [] ≡ stepped (width_in ss (b ∷ bs)) p (fault_due ss 0 (p + width_in ss (b ∷ bs)) (drop (width_in ss (b ∷ bs)) (b ∷ bs)) [])
+    → fault_due ss 0 p (b ∷ bs) [] ≡ stepped (width_in ss (b ∷ bs)) p (λ w. fault_due ss 0 (p + w) (drop w (b ∷ bs)) [])
 unfolding fault_due width_in
 step ss p b bs = by_lead (lead_in ss b)
   where
     by_rest : (rs : List Range) (y : Bool) → if y (fault_due ss p (suc p + length rs) (drop (length rs) bs) []) (fault p)
-        ≡ stepped (if y (suc (length rs)) 0) p (fault_due ss 0 (p + if y (suc (length rs)) 0) (drop (if y (suc (length rs)) 0) (b ∷ bs)) [])
+        ≡ stepped (if y (Some (suc (length rs))) None) p (λ w. fault_due ss 0 (p + w) (drop w (b ∷ bs)) [])
     by_rest rs true = rw (add-suc p (length rs), suc-add p (length rs)) (none_due ss p 0 (suc (p + length rs)) (drop (length rs) bs))
     by_rest rs false = refl
 
-    by_lead : (l : Lead) → led l p (λ rs. fault_due ss p (suc p) bs rs) ≡ stepped (width_by l bs) p (fault_due ss 0 (p + width_by l bs) (drop (width_by l bs) (b ∷ bs)) [])
+    by_lead : (l : Lead) → led l p (λ rs. fault_due ss p (suc p) bs rs) ≡ stepped (width_by l bs) p (λ w. fault_due ss 0 (p + w) (drop w (b ∷ bs)) [])
     by_lead stray = refl
     by_lead (then rs) = rw (due ss p (suc p) bs rs) (by_rest rs (stand rs bs))
 
@@ -102,12 +141,11 @@ step ss p b bs = by_lead (lead_in ss b)
 abbrev pub fault_from : List Sequence → List ℕ → ℕ → Fault
 fault_from ss text at = fault_due ss 0 at (drop at text) []
 
-pub stops : (ss : List Sequence) (text : List ℕ) (at : ℕ) → at < length text → 0 ≡ width_in ss (drop at text) → fault_from ss text at ≡ fault at
+pub stops : (ss : List Sequence) (text : List ℕ) (at : ℕ) → at < length text → None ≡ width_in ss (drop at text) → fault_from ss text at ≡ fault at
 stops ss text at h e = rw (drop-cons text at 0 h, step ss at (get_or text at 0) (drop (suc at) text), ← drop-cons text at 0 h, ← e)
 
-pub goes : (ss : List Sequence) (text : List ℕ) (at w : ℕ) → at < length text → w ≡ width_in ss (drop at text) → 0 < w → fault_from ss text (at + w) ≡ fault_from ss text at
-goes ss text at zero h e o = absurd (omega arith)
-goes ss text at (suc w) h e o = sym (rw (drop-cons text at 0 h, step ss at (get_or text at 0) (drop (suc at) text), ← drop-cons text at 0 h, ← e, drop-drop))
+pub goes : (ss : List Sequence) (text : List ℕ) (at w : ℕ) → at < length text → Some w ≡ width_in ss (drop at text) → fault_from ss text (at + w) ≡ fault_from ss text at
+goes ss text at w h e = sym (rw (drop-cons text at 0 h, step ss at (get_or text at 0) (drop (suc at) text), ← drop-cons text at 0 h, ← e, drop-drop))
 
 pub ends : (ss : List Sequence) (text : List ℕ) (at : ℕ) → length text ≤ at → fault_from ss text at ≡ flawless
 unfolding fault_due

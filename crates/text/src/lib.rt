@@ -56,19 +56,18 @@ fn tail_at(text: &[u8], at: usize) -> bool
 fn sequence_at(text: &[u8], at: usize) -> Option<usize>
     ensures { result ≡ width_in utf8 (drop at text.now) }
 {
-    let lead = lead_of(*text.get(at)?)?;
-    let (stands, width) = match lead {
-        Lead::One => (true, 1),
-        Lead::Two => (tail_at(text, at + 1), 2),
-        Lead::Three { lo, hi } => (byte_at(text, at + 1, lo, hi) && tail_at(text, at + 2), 3),
-        Lead::Four { lo, hi } => {
-            (
-                byte_at(text, at + 1, lo, hi) && tail_at(text, at + 2) && tail_at(text, at + 3),
-                4,
-            )
+    match lead_of(*text.get(at)?)? {
+        Lead::One => Some(1),
+        Lead::Two => tail_at(text, at + 1).then_some(2),
+        Lead::Three { lo, hi } => {
+            (byte_at(text, at + 1, lo, hi) && tail_at(text, at + 2)).then_some(3)
         }
-    };
-    stands.then_some(width)
+        Lead::Four { lo, hi } => {
+            (byte_at(text, at + 1, lo, hi)
+                && tail_at(text, at + 2)
+                && tail_at(text, at + 3)).then_some(4)
+        }
+    }
 }
 
 // Whether 16 bytes of ASCII stand there: their highest tells.
@@ -157,7 +156,7 @@ pub fn flaw_of(kind: Kind, text: &[u8]) -> Option<usize>
 // Of so many bytes from `start` on, which are a row's text of that kind, how many are good: all, or those before the first fault.
 // Where the text has fewer bytes there, it is of those.
 // 16 bytes of ASCII are good for every kind: where they stand there, a short text needs no look at its own end.
-#[tactic(auto, using(crate::proofs::Parts::block_good))]
+#[tactic(auto, using(crate::proofs::Parts::block_good, crate::proofs::Parts::past_good))]
 pub fn good_length(kind: Kind, text: &[u8], start: usize, count: usize) -> usize
     ensures { result ≡ good_length (kind_is kind) (take count (drop start text.now)) }
 {

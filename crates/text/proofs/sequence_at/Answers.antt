@@ -1,53 +1,52 @@
 -- `text::sequence_at` meets its contract: what the first byte asks for is tested a byte at a time.
-use Prim.Native.Nat.{◌+◌}
+use Prim.Native.Nat.{◌+◌, ◌≤◌}
 use mathlib.Core.List.{[], ◌∷◌}
 use mathlib.Core.Path.{◌≡◌, sym, ap, ◌∙◌}
-use lib.ListN.{drop, drop_of_length-le}
-use Rattle.standard.specs.Text.{tail, utf8}
-use Rattle.text.specs.Steps.{lead_is, stand, width_by, width_in}
+use lib.ListN.{length, drop, drop_of_length-le}
+use Rattle.std.specs.Prelude.{Some}
+use Rattle.std.proofs.lemmas.Bool.{false≢true}
+use Rattle.standard.specs.Text.{tail, utf8, then}
+use Rattle.text.specs.Steps.{lead_is, behind, stand, width_by, width_in}
 use Rattle.text.specs.declared.Lead.{Lead}
-use Rattle.text.proofs.Sequences.{stand_more, width_at}
+use Rattle.text.proofs.Sequences.{stand_on, stand_off, width_then, width_got}
 use Rattle.text.proofs.sequence_at.Goals as goal
-use Rattle.text.proofs.sequence_at.Goals.{After-lead_of, else-byte_at-via-then-byte_at+else-tail_at-2, else-byte_at-via-else-byte_at, else-byte_at-2-via-then-byte_at-2+then-tail_at-3+else-tail_at-4, else-byte_at-2-via-then-byte_at-2+else-tail_at-3, else-byte_at-2-via-else-byte_at-2}
+use Rattle.text.proofs.sequence_at.Goals.{In_ok-lead_of, then-byte_at, else-byte_at, then-byte_at-2, else-byte_at-2, then-tail_at, else-tail_at}
 
--- what a first byte asks for decides
-by_lead : (c : After-lead_of) (l : Lead) → c.lead_of.result ≡ l
-    → width_in utf8 (drop c.args.at c.args.text.now)
-    ≡ width_by (lead_is l) (drop (c.args.at + 1) c.args.text.now)
-by_lead c l e = width_at utf8 _ _ (lead_is l) c.if-text-at.false (sym c.lead_of.ensures ∙ ap lead_is e)
+-- what the first byte asks for decides
+by_lead : (c : In_ok-lead_of) (l : Lead) → c.in_ok-lead_of.field-0 ≡ l
+    → width_by (then (behind l)) (drop (c.args.at + 1) c.args.text.now) ≡ width_in utf8 (drop c.args.at c.args.text.now)
+by_lead c l e = width_got utf8 _ _ c.in_ok-get.field-0 _ c.in_ok-get.ensures.lookup (sym c.lead_of.ensures ∙ ap lead_is (c.in_ok-lead_of.was ∙ ap Some e))
 
-pub returns-then-text-at : goal.returns-then-text-at
+pub returns-in_err-get : goal.returns-in_err-get
 unfolding width_in
-returns-then-text-at c = simp (drop_of_length-le c.args.text.now c.if-text-at.true)
+returns-in_err-get c = let h : length c.args.text.now ≤ c.args.at = c.in_err-get.ensures.lookup.3 in c.from_residual.ensures ∙ simp (drop_of_length-le c.args.text.now h)
 
-pub returns-in-Stray : goal.returns-in-Stray
-returns-in-Stray c = sym (by_lead (goal.at.returns-in-Stray c).After-lead_of _ c.in-Stray.is)
+pub returns-in_err-lead_of : goal.returns-in_err-lead_of
+returns-in_err-lead_of c = c.from_residual-in_err-lead_of.ensures ∙ width_got utf8 _ _ c.in_ok-get.field-0 _ c.in_ok-get.ensures.lookup (sym c.in_err-lead_of.ensures)
 
 pub returns-in-One : goal.returns-in-One
 unfolding stand
-returns-in-One c = sym (by_lead (goal.at.returns-in-One c).After-lead_of _ c.in-One.is)
+returns-in-One c = by_lead (goal.at.returns-in-One c).In_ok-lead_of _ c.in-One.is
 
-pub returns-then-tail_at : goal.returns-then-tail_at
-returns-then-tail_at c = sym (by_lead (goal.at.returns-then-tail_at c).After-lead_of _ c.in-Two.is ∙ rw (sym c.tail_at.ensures ∙ c.if-tail_at.true))
+pub returns-in-Two : goal.returns-in-Two
+returns-in-Two c = c.then_some.ensures ∙ width_then (tail ∷ []) _ _ c.tail_at.ensures ∙ by_lead (goal.at.returns-in-Two c).In_ok-lead_of _ c.in-Two.is
 
-pub returns-else-tail_at : goal.returns-else-tail_at
-returns-else-tail_at c = sym (by_lead (goal.at.returns-else-tail_at c).After-lead_of _ c.in-Two.is ∙ rw (sym c.tail_at.ensures ∙ c.if-tail_at.false))
+pub returns-after-byte_at : goal.returns-after-byte_at
+returns-after-byte_at c = c.then_some-in-Three.ensures ∙ width_then _ _ _ (elim c.if-byte_at.branch [
+  | then-byte_at w ↦ stand_on _ _ c.args.text.now c.args.at 1 _ (sym w.if-byte_at.true ∙ c.byte_at.ensures) (w.then_some-is ∙ w.tail_at-then-byte_at.ensures)
+  | else-byte_at w ↦ stand_off _ (tail ∷ []) c.args.text.now c.args.at 1 _ (sym w.if-byte_at.false ∙ c.byte_at.ensures) (w.then_some-is ∙ w.if-byte_at.false)
+]) ∙ by_lead (goal.at.returns-after-byte_at c).In_ok-lead_of _ c.in-Three.is
 
-pub returns-then-tail_at-2 : goal.returns-then-tail_at-2
-returns-then-tail_at-2 c = sym (by_lead (goal.at.returns-then-tail_at-2 c).After-lead_of _ c.in-Three.is ∙ rw (stand_more _ _ _ _ 1, sym c.byte_at.ensures ∙ c.if-byte_at.true, sym c.tail_at-then-byte_at.ensures ∙ c.if-tail_at-2.true))
-
-pub returns-else-byte_at : goal.returns-else-byte_at
-returns-else-byte_at c = sym (by_lead (goal.at.returns-else-byte_at c).After-lead_of _ c.in-Three.is ∙ rw (stand_more _ _ _ _ 1) (elim c.else-byte_at.branch [
-  | else-byte_at-via-then-byte_at+else-tail_at-2 w ↦ rw (sym c.byte_at.ensures ∙ w.if-byte_at.true, sym w.tail_at-then-byte_at.ensures ∙ w.if-tail_at-2.false)
-  | else-byte_at-via-else-byte_at w ↦ rw (sym c.byte_at.ensures ∙ w.if-byte_at.false)
-]))
-
-pub returns-then-tail_at-4 : goal.returns-then-tail_at-4
-returns-then-tail_at-4 c = sym (by_lead (goal.at.returns-then-tail_at-4 c).After-lead_of _ c.in-Four.is ∙ rw (stand_more _ _ _ _ 1, stand_more _ (tail ∷ []) _ _ 2, sym c.byte_at-in-Four.ensures ∙ c.if-byte_at-2.true, sym c.tail_at-then-byte_at-2.ensures ∙ c.if-tail_at-3.true, sym c.tail_at-then-tail_at-3.ensures ∙ c.if-tail_at-4.true))
-
-pub returns-else-byte_at-2 : goal.returns-else-byte_at-2
-returns-else-byte_at-2 c = sym (by_lead (goal.at.returns-else-byte_at-2 c).After-lead_of _ c.in-Four.is ∙ rw (stand_more _ _ _ _ 1, stand_more _ (tail ∷ []) _ _ 2) (elim c.else-byte_at-2.branch [
-  | else-byte_at-2-via-then-byte_at-2+then-tail_at-3+else-tail_at-4 w ↦ rw (sym c.byte_at-in-Four.ensures ∙ w.if-byte_at-2.true, sym w.tail_at-then-byte_at-2.ensures ∙ w.if-tail_at-3.true, sym w.tail_at-then-tail_at-3.ensures ∙ w.if-tail_at-4.false)
-  | else-byte_at-2-via-then-byte_at-2+else-tail_at-3 w ↦ rw (sym c.byte_at-in-Four.ensures ∙ w.if-byte_at-2.true, sym w.tail_at-then-byte_at-2.ensures ∙ w.if-tail_at-3.false)
-  | else-byte_at-2-via-else-byte_at-2 w ↦ rw (sym c.byte_at-in-Four.ensures ∙ w.if-byte_at-2.false)
-]))
+pub returns-after-tail_at : goal.returns-after-tail_at
+returns-after-tail_at c = c.then_some-in-Four.ensures ∙ width_then _ _ _ (elim c.if-tail_at.branch [
+  | then-tail_at w ↦ elim c.if-byte_at-2.branch [
+    | then-byte_at-2 v ↦ stand_on _ _ c.args.text.now c.args.at 1 _ (sym v.if-byte_at-2.true ∙ c.byte_at-in-Four.ensures)
+        (stand_on _ _ c.args.text.now c.args.at 2 _ (sym w.if-tail_at.true ∙ v.value-is ∙ v.tail_at-then-byte_at-2.ensures) (w.then_some-is ∙ w.tail_at-then-tail_at.ensures))
+    | else-byte_at-2 v ↦ absurd (false≢true (sym v.if-byte_at-2.false ∙ sym v.value-is ∙ w.if-tail_at.true))
+  ]
+  | else-tail_at w ↦ elim c.if-byte_at-2.branch [
+    | then-byte_at-2 v ↦ stand_on _ _ c.args.text.now c.args.at 1 _ (sym v.if-byte_at-2.true ∙ c.byte_at-in-Four.ensures)
+        (stand_off _ (tail ∷ []) c.args.text.now c.args.at 2 _ (sym w.if-tail_at.false ∙ v.value-is ∙ v.tail_at-then-byte_at-2.ensures) (w.then_some-is ∙ w.if-tail_at.false))
+    | else-byte_at-2 v ↦ stand_off _ (tail ∷ tail ∷ []) c.args.text.now c.args.at 1 _ (sym v.if-byte_at-2.false ∙ c.byte_at-in-Four.ensures) (w.then_some-is ∙ w.if-tail_at.false)
+  ]
+]) ∙ by_lead (goal.at.returns-after-tail_at c).In_ok-lead_of _ c.in-Four.is
