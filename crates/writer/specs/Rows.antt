@@ -1,8 +1,13 @@
 -- The checks of one row, before its children (docs/FORMAT.md, 5.2).
-use Rattle.std.specs.Prelude.{ℕ, zero, suc, ◌+◌, List, [], ◌∷◌, leb, length, take}
+use Rattle.std.specs.Prelude.{ℕ, zero, suc, ◌+◌, ◌<◌, ◌≡◌, Option, Some, None, List, [], ◌∷◌, leb, length, take, drop}
 use Rattle.standard.specs.Answer.{Answer, got, refuse, at, ◌>>◌, need, rows_amiss, kind_unknown, too_deep, element_unfit, number_outside, text_amiss}
 use Rattle.standard.specs.Kinds.{style_of, is_kind, clean, good_length}
 use Rattle.standard.specs.Table.{Spot, allowed, naming, spot_in, ranged, letters}
+
+-- the row in front of words
+abbrev pub Front : (words : List ℕ) → Option (ℕ × ℕ) → Type 0
+Front w None = length w < 2
+Front w (Some (k, n)) = w ≡ k ∷ n ∷ drop 2 w
 
 -- kind and number of a good row at row i, whose text begins at place j of all, where so many levels are left
 unfoldable pub check : (levels : ℕ) → Spot → (row from : ℕ) → (words text : List ℕ) → Answer (ℕ × ℕ)

@@ -1,31 +1,31 @@
 -- What sizing finds of values that stand one after another in a table.
-use Rattle.std.specs.Prelude.{ℕ, zero, suc, ◌+◌, ◌*◌, ◌/◌, ◌%◌, ◌^◌, ◌≤◌, ◌<◌, ◌≡◌, List, [], ◌∷◌, Bool, true, false, not, ◌&&◌, T, eqb, leb, ltb, length, take, drop}
+use Rattle.std.specs.Prelude.{ℕ, ◌+◌, ◌*◌, ◌/◌, ◌%◌, ◌^◌, ◌≤◌, ◌<◌, ◌≡◌, List, Bool, true, false, not, ◌&&◌, T, Option, Some, None, eqb, leb, ltb, length, take, drop}
 use Rattle.std.proofs.lemmas.List.Edits.{sets}
 use Rattle.standard.specs.Bytes.{be}
 use Rattle.standard.specs.Choose.{if}
-use Rattle.standard.specs.Answer.{Answer, got, refuse, offset}
+use Rattle.standard.specs.Answer.{Answer, got, refuse}
+use Rattle.standard.specs.InCode.{kind_is}
 use Rattle.standard.specs.Tree.{Trees, tall*, text*}
-use Rattle.standard.specs.Kinds.{Style, foreign, numbered, blob, lettered, listed, mapped, arrayed, describing, style_of, member, clean, count_in, kind_in}
-use Rattle.standard.specs.Table.{most, Spot, ranged, letters, children, several, tree}
+use Rattle.standard.specs.Kinds.{Style, foreign, numbered, blob, lettered, listed, mapped, arrayed, describing, style_of, is_kind, member, clean}
+use Rattle.standard.specs.Table.{most, Spot, any, like, ranged, letters, children, spot_in, several, tree}
 use Rattle.standard.specs.Encode.{short_end, shortest}
 use Rattle.writer.specs.Heads.{Mode, values, elements, mode_of, array_width, head_in, written*}
 use Rattle.writer.specs.Marks.{marks*}
 use Rattle.writer.specs.Rows.{check}
-use Rattle.writer.specs.Direct.{is_lettered}
 use Rattle.writer.specs.declared.sizing.Extent.{Extent}
+use Rattle.writer.specs.declared.sizing.Children.{Children}
+use Rattle.writer.specs.declared.sizing.Children.TheVariants.{Values, Elements}
 use Rattle.writer.specs.declared.sizing.Taken.{Taken}
-use Rattle.writer.specs.declared.sizing.Taken.TheVariants.{Number, Letters, Open, Array, Other}
-use Rattle.writer.specs.declared.sizing.Sized.{Sized}
-use Rattle.writer.specs.declared.sizing.Sized.TheVariants.{Fits, Refused}
+use Rattle.writer.specs.declared.sizing.Taken.TheVariants.{Number, Letters, Parent}
 
 -- the bytes of values that stand at a spot: values, or elements of an array
 abbrev pub size_in : Spot → Trees → ℕ
 size_in c vs = length (written* (mode_of c) vs)
 
 -- the row, the text, the bytes and the marks behind values that begin at a place
-unfoldable pub total_from : Spot → Extent → Answer (Trees × List ℕ × List ℕ) → Sized
-total_from c o (got (vs, u, y)) = Fits (record { row = o.row + tall* vs; text = o.text + length (text* vs); size = o.size + size_in c vs; mark = o.mark + length (marks* vs) })
-total_from c o (refuse x p) = Refused (record { number = x; place = offset p })
+unfoldable pub total_from : Spot → Extent → Answer (Trees × List ℕ × List ℕ) → Answer Extent
+total_from c o (got (vs, u, y)) = got (record { row = o.row + tall* vs; text = o.text + length (text* vs); size = o.size + size_in c vs; mark = o.mark + length (marks* vs) })
+total_from c o (refuse x p) = refuse x p
 
 -- the marks of values stand in a buffer from m on, if it has room for them
 unfoldable pub Marked : (before : List ℕ) → (mark : ℕ) → (after : List ℕ) → Answer (Trees × List ℕ × List ℕ) → Type 0
@@ -37,7 +37,7 @@ abbrev pub values_at : (words text : List ℕ) → (levels : ℕ) → Spot → (
 values_at w x l c n o = several (λ d i j u y. tree l d i j u y) c n o.row o.text (drop (2 * o.row) w) (drop o.text x)
 
 -- r is what is behind so many values from o on, or their refusal, and their marks are put into a buffer
-abbrev pub Finds : (words text : List ℕ) → (levels : ℕ) → Spot → (count : ℕ) → Extent → (before after : List ℕ) → Sized → Type 0
+abbrev pub Finds : (words text : List ℕ) → (levels : ℕ) → Spot → (count : ℕ) → Extent → (before after : List ℕ) → Answer Extent → Type 0
 Finds w x l c n o b a r = (r ≡ total_from c o (values_at w x l c n o)) × Marked b o.mark a (values_at w x l c n o)
 
 -- the bytes before the text of a row
@@ -57,16 +57,37 @@ opens s k n = not (eqb k 0xf0) && nests s k n
 unfoldable pub arrays : Style → (kind number : ℕ) → Bool
 arrays s k n = eqb k 0xf0 && nests s k n
 
--- the bytes of a number that stands in no array; 0 where a row holds none, or one that is not in range
-unfoldable pub number_size : Style → (kind number : ℕ) → ℕ
-number_size foreign k n = 0
-number_size (numbered s w) k n = if (ranged (numbered s w) k n) (length (shortest s w (k % 256) n)) 0
-number_size (blob w) k n = 0
-number_size (lettered s) k n = 0
-number_size (listed e s) k n = 0
-number_size (mapped s) k n = 0
-number_size (arrayed s) k n = 0
-number_size describing k n = 0
+-- the children of a row that has some: where they stand, and how many they are
+abbrev pub children_spot : Children → Spot
+children_spot (Values n) = any
+children_spot (Elements k n) = like (kind_is k)
+
+abbrev pub children_count : Children → ℕ
+children_count (Values n) = n
+children_count (Elements k n) = n
+
+abbrev pub children_is : Option Children → Option (Spot × ℕ)
+children_is None = None
+children_is (Some cs) = Some (children_spot cs, children_count cs)
+
+unfoldable pub parent_of : Style → (kind number : ℕ) → Option (Spot × ℕ)
+parent_of s k n = if (nests s k n) (Some (spot_in s n, children s n)) None
+
+-- in an array of elements of a kind that arrays may hold, if in an array at all
+abbrev pub Sure : Spot → Type 0
+Sure any = Unit {0}
+Sure (like k) = T (member (style_of k))
+
+-- the bytes of a number that stands in no array, where a row holds one that is in range
+unfoldable pub number_size : Style → (kind number : ℕ) → Option ℕ
+number_size foreign k n = None
+number_size (numbered s w) k n = if (ranged (numbered s w) k n) (Some (length (shortest s w (k % 256) n))) None
+number_size (blob w) k n = None
+number_size (lettered s) k n = None
+number_size (listed e s) k n = None
+number_size (mapped s) k n = None
+number_size (arrayed s) k n = None
+number_size describing k n = None
 
 -- Kinds of numbers of which the code decides by themselves: `plain_suits` of proofs/Plain.antt holds them against the table
 
@@ -77,36 +98,57 @@ plain_below h = if (eqb h 4) 1 (if (eqb h 5) 2 (if (eqb h 6) 2 (if (eqb h 7) 3 (
 unfoldable pub plain_kind : (kind : ℕ) → Bool
 plain_kind k = ltb (k % 16) (plain_below (k / 16))
 
--- the bytes of a text of kind k and length n with its code and its length; 0 where it is not all there, or not good
-unfoldable pub text_size : (kind number : ℕ) → (text : List ℕ) → ℕ
-text_size k n x = if (leb n most && (leb n (length x) && clean k (take n x))) (if (ltb n short_end) 2 5 + n) 0
+-- the bytes of a text of kind k and length n with its code and its length, where it is all there, and good
+unfoldable pub text_size : (kind number : ℕ) → (text : List ℕ) → Option ℕ
+text_size k n x = if (leb n most && (leb n (length x) && clean k (take n x))) (Some (if (ltb n short_end) 2 5 + n)) None
 
--- the bytes of letters that stand in no array; 0 where a row holds none
-unfoldable pub letters_size : Style → (kind number : ℕ) → (text : List ℕ) → ℕ
-letters_size s k n x = if (is_lettered s) (text_size k n x) 0
+-- a number, or letters: a row without children with y bytes of text in front of x, which takes z bytes
+pub record LeafRow (s : Style) (k n : ℕ) (x : List ℕ) (y z : ℕ) : Type 0 where
+  pub known : is_kind s ≡ true
+  pub in_range : ranged s k n ≡ true
+  pub worded : y ≡ letters s n
+  pub enough : y ≤ length x
+  pub clear : clean k (take y x) ≡ true
+  pub barren : children s n ≡ 0
+  pub sized : z ≡ head_size values s k n 0 + y
 
--- by whether it is open, the bytes that it takes as a number or as letters, and whether it is an array
-abbrev pub chosen : (opened : Bool) → (number letters : ℕ) → (array : Bool) → (kind count : ℕ) → Taken
-chosen o z y a k n = if o (Open k n) (if (ltb 0 z) (Number z) (if (ltb 0 y) (Letters n y) (if a (Array (kind_in n) (count_in n)) Other)))
+-- what taking a row of that kind and number tells of it
+abbrev pub Seen : (kind number : ℕ) → (text : List ℕ) → Option Taken → Type 0
+Seen k n x None = nests (style_of k) k n ≡ false
+Seen k n x (Some (Number z)) = LeafRow (style_of k) k n x 0 z
+Seen k n x (Some (Letters y z)) = LeafRow (style_of k) k n x y z
+Seen k n x (Some (Parent j cs)) = (kind_is j ≡ k) × (children_is (Some cs) ≡ parent_of (style_of k) k n)
 
--- the row in front of words, with its text in front of x, where so many levels are left
-unfoldable pub taken_of : (levels : ℕ) → (words text : List ℕ) → Taken
-taken_of zero w x = Other
-taken_of (suc l) [] x = Other
-taken_of (suc l) (k ∷ []) x = Other
-taken_of (suc l) (k ∷ n ∷ w) x = chosen (opens (style_of k) k n) (number_size (style_of k) k n) (letters_size (style_of k) k n x) (arrays (style_of k) k n) k n
+-- such a row in front of words
+pub record Leaf (l : ℕ) (w x : List ℕ) (y z : ℕ) : Type 0 where
+  pub kind : ℕ
+  pub number : ℕ
+  pub checks : (i j : ℕ) → check l any i j w x ≡ got (kind, number)
+  pub row : LeafRow (style_of kind) kind number x y z
 
-abbrev pub other : Taken
-other = Other
+-- a row of that kind in front of words that passes the checks, whatever its text, and has these children
+pub record Family (l : ℕ) (c : Spot) (w : List ℕ) (kind : ℕ) (cs : Children) : Type 0 where
+  pub number : ℕ
+  pub checks : (i j : ℕ) (x : List ℕ) → check l c i j w x ≡ got (kind, number)
+  pub spot : spot_in (style_of kind) number ≡ children_spot cs
+  pub full : children (style_of kind) number ≡ children_count cs
+  pub some : 0 < children_count cs
 
--- a row in front of words that passes the checks, whatever its text, and has children
-abbrev pub Nest : (levels : ℕ) → Spot → (words : List ℕ) → (kind number : ℕ) → Type 0
-Nest l c w k n = ((i j : ℕ) (x : List ℕ) → check l c i j w x ≡ got (k, n)) × (0 < children (style_of k) n)
+-- a good row in front of words has no children
+abbrev pub Bare : (levels : ℕ) → Spot → (words : List ℕ) → Type 0
+Bare l c w = (i j : ℕ) (x : List ℕ) (k n : ℕ) → check l c i j w x ≡ got (k, n) → children (style_of k) n ≡ 0
 
--- is an element one; if not, a good element has no children
-abbrev pub Nested : (levels : ℕ) → Spot → (words : List ℕ) → (kind number : ℕ) → Bool → Type 0
-Nested l c w k n true = Nest l c w k n
-Nested l c w k n false = (i j : ℕ) (x : List ℕ) (k n : ℕ) → check l c i j w x ≡ got (k, n) → T (member (style_of k)) → children (style_of k) n ≡ 0
+-- what taking a row tells of it
+abbrev pub Told : (levels : ℕ) → (words text : List ℕ) → Option Taken → Type 0
+Told l w x None = Bare l any w
+Told l w x (Some (Number z)) = Leaf l w x 0 z
+Told l w x (Some (Letters y z)) = Leaf l w x y z
+Told l w x (Some (Parent k cs)) = Family l any w (kind_is k) cs
+
+-- and taking an element of an array that tells a kind
+abbrev pub Nested : (levels told : ℕ) → (words : List ℕ) → Option Children → Type 0
+Nested l k w None = Bare l (like k) w
+Nested l k w (Some cs) = Family l (like k) w k cs
 
 -- A place in a table
 
@@ -122,9 +164,9 @@ abbrev pub beyond : Mode → Extent → (kind number : ℕ) → Extent
 beyond m o k n = past o (letters (style_of k) n) (head_size m (style_of k) k n 0 + letters (style_of k) n)
 
 -- or its refusal
-abbrev pub passed : Extent → Answer (ℕ × ℕ) → Sized
-passed o (got (k, n)) = Fits (beyond values o k n)
-passed o (refuse x p) = Refused (record { number = x; place = offset p })
+abbrev pub passed : Extent → Answer (ℕ × ℕ) → Answer Extent
+passed o (got (k, n)) = got (beyond values o k n)
+passed o (refuse x p) = refuse x p
 
 -- at the first child of a row
 abbrev pub inside : Extent → (kind : ℕ) → Extent

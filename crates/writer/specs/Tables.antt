@@ -1,5 +1,5 @@
 -- What sizing says of a whole table.
-use Rattle.std.specs.Prelude.{ℕ, ◌-◌, ◌≤◌, ◌≡◌, List, [], T, leb, length}
+use Rattle.std.specs.Prelude.{ℕ, ◌-◌, ◌≤◌, ◌≡◌, List, [], T, Result, Ok, Err, leb, length}
 use Rattle.std.proofs.lemmas.List.Edits.{sets}
 use Rattle.standard.specs.Answer.{Answer, got, refuse}
 use Rattle.standard.specs.Choose.{if}
@@ -10,9 +10,8 @@ use Rattle.standard.specs.Encode.{encode}
 use Rattle.standard.specs.Outcomes as outcome
 use Rattle.standard.specs.Outcomes.{level_most, in_force}
 use Rattle.writer.specs.Marks.{marks}
+use Rattle.standard.specs.declared.refusal.Refusal.{Refusal}
 use Rattle.writer.specs.declared.sizing.Extent.{Extent}
-use Rattle.writer.specs.declared.sizing.Sized.{Sized}
-use Rattle.writer.specs.declared.sizing.Sized.TheVariants.{Fits, Refused}
 
 -- a table that can be written within that level limit, with its size and its marks, which stand in the buffer if it has room for them
 pub record Fitting (limit : ℕ) (words letters before after : List ℕ) (e : Extent) : Type 0 where
@@ -24,9 +23,9 @@ pub record Fitting (limit : ℕ) (words letters before after : List ℕ) (e : Ex
   pub mark : e.mark ≡ length (marks tree)
   pub kept : length (marks tree) ≤ length before → after ≡ sets before 0 (marks tree)
 
-abbrev pub TableSized : (limit : ℕ) → (words letters before after : List ℕ) → Sized → Type 0
-TableSized l w x b a (Fits e) = Fitting l w x b a e
-TableSized l w x b a (Refused r) = outcome.size l w x ≡ refusal_is r
+abbrev pub TableSized : (limit : ℕ) → (words letters before after : List ℕ) → Result Extent Refusal → Type 0
+TableSized l w x b a (Ok e) = Fitting l w x b a e
+TableSized l w x b a (Err r) = outcome.size l w x ≡ refusal_is r
 
 -- the bytes of what a table holds
 abbrev pub bytes_in : Answer Tree → List ℕ
@@ -49,6 +48,6 @@ pub record Writable (words letters : List ℕ) (n m : ℕ) (before out : List �
   pub placed : out ≡ if (leb m near_most) (sets before (n - m) (marks tree)) before
 
 -- what sizing says of a table and an output
-abbrev pub SizedFor : (limit : ℕ) → (words letters before after : List ℕ) → Sized → Type 0
-SizedFor l w x b a (Fits e) = Writable w x e.size e.mark b a × (outcome.write l w x b ≡ record { answer = got e.size; out = sets b 0 (bytes_in (table level_most w x)) })
-SizedFor l w x b a (Refused r) = (a ≡ b) × (outcome.write l w x b ≡ record { answer = refusal_is r; out = b })
+abbrev pub SizedFor : (limit : ℕ) → (words letters before after : List ℕ) → Result Extent Refusal → Type 0
+SizedFor l w x b a (Ok e) = Writable w x e.size e.mark b a × (outcome.write l w x b ≡ record { answer = got e.size; out = sets b 0 (bytes_in (table level_most w x)) })
+SizedFor l w x b a (Err r) = (a ≡ b) × (outcome.write l w x b ≡ record { answer = refusal_is r; out = b })

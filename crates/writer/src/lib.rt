@@ -13,7 +13,7 @@ ghost use Rattle.standard.specs.Outcomes.{level_most, level_default};
 ghost use Rattle.std.proofs.lemmas.List.Edits.{sets};
 ghost use Rattle.standard.specs.Choose.{if};
 ghost use Rattle.standard.specs.Tree.{Tree};
-ghost use Rattle.standard.specs.Table.{table};
+ghost use Rattle.standard.specs.Table as tables;
 ghost use Rattle.writer.specs.Marks.{marks};
 ghost use Rattle.writer.specs.Marking.{Markable, Tabled};
 ghost use Rattle.writer.specs.Tables.{TableSized, SizedFor, Writable, bytes_in, near_most};
@@ -27,66 +27,49 @@ mod put;
 mod row;
 mod sizing;
 
-use sizing::{Extent, Sized};
-use standard::refusal::Refusal;
-use standard::{kind, limit, refusal};
+use row::{Table, refuse};
+use sizing::Extent;
+use standard::refusal::{Reason, Refusal};
+use standard::{kind, limit};
 
 // So many bytes of marks are kept beside the output: those of 200 compounds.
 const NEAR: usize = 600;
 
-// The length in bytes of what is written, or why nothing is.
-#[derive(Clone, Copy)]
-pub enum Written {
-    Length(usize),
-    Refused(Refusal),
-}
-
-fn refuse(number: usize, place: usize) -> Sized
-    ensures { result ≡ Sized.Refused (record { number = number; place = place }) }
-{
-    Sized::Refused(Refusal { number, place })
-}
-
 // Sizes a whole table within a level limit, and leaves its marks where there is room for them.
-fn size_table(limit: usize, words: &[u64], text: &[u8], marks: &mut [u8]) -> Sized
-    ensures { TableSized limit words.now text.now marks.old marks.new result }
+fn size_table(limit: usize, table: Table, marks: &mut [u8]) -> Result<Extent, Refusal>
+    ensures { TableSized limit table.entry.words.now table.entry.text.now marks.old marks.new result }
 {
     if !limit::is_in_force(limit) {
-        return refuse(refusal::LIMIT_OUTSIDE, 0);
+        return Err(refuse(Reason::LimitOutside, 0));
     }
-    let n = words.len();
+    let n = table.words.len();
     if n % 2 == 1 {
-        return refuse(refusal::ROWS_AMISS, 0);
+        return Err(refuse(Reason::RowsAmiss, 0));
     }
-    let all = sizing::size_values(words, text, 1, limit, marks, Extent::new());
-    let Sized::Fits(e) = all else {
-        return all;
-    };
+    let e = sizing::size_values(table, 1, limit, marks, Extent::new())?;
     if 2 * e.row < n {
-        return refuse(refusal::ROWS_AMISS, e.row);
+        return Err(refuse(Reason::RowsAmiss, e.row));
     }
-    if e.text < text.len() {
-        return refuse(refusal::TEXT_AMISS, n / 2);
+    if e.text < table.text.len() {
+        return Err(refuse(Reason::TextAmiss, n / 2));
     }
     if (kind::MOST as usize) < e.size {
-        return refuse(refusal::TOO_LONG, 0);
+        return Err(refuse(Reason::TooLong, 0));
     }
-    all
+    Ok(e)
 }
 
 // The length of what would be written within a level limit.
-pub fn size_within(limit: usize, words: &[u64], text: &[u8]) -> Written
+pub fn size_within(limit: usize, words: &[u64], text: &[u8]) -> Result<usize, Refusal>
     ensures { written_is result ≡ outcome.size limit words.now text.now }
 {
     let mut marks = [0u8; 0];
-    match size_table(limit, words, text, &mut marks) {
-        Sized::Refused(r) => Written::Refused(r),
-        Sized::Fits(e) => Written::Length(e.size),
-    }
+    let all = size_table(limit, Table { words, text }, &mut marks)?;
+    Ok(all.size)
 }
 
 // The length of what would be written, within 16 levels.
-pub fn size(words: &[u64], text: &[u8]) -> Written
+pub fn size(words: &[u64], text: &[u8]) -> Result<usize, Refusal>
     ensures { written_is result ≡ outcome.size level_default words.now text.now }
 {
     size_within(limit::DEFAULT, words, text)
@@ -103,19 +86,16 @@ fn put_near(near: &[u8], n: usize, m: usize, out: &mut [u8])
 }
 
 // Sizes a table for an output. If there is room for it, marks that are kept near are put to the end of its bytes.
-fn size_for(limit: usize, words: &[u64], text: &[u8], out: &mut [u8]) -> Sized
-    ensures { SizedFor limit words.now text.now out.old out.new result }
+fn size_for(limit: usize, table: Table, out: &mut [u8]) -> Result<Extent, Refusal>
+    ensures { SizedFor limit table.entry.words.now table.entry.text.now out.old out.new result }
 {
     let mut near = [0u8; NEAR];
-    let all = size_table(limit, words, text, &mut near);
-    let Sized::Fits(e) = all else {
-        return all;
-    };
+    let e = size_table(limit, table, &mut near)?;
     if out.len() < e.size {
-        return refuse(refusal::OUTPUT_SHORT, 0);
+        return Err(refuse(Reason::OutputShort, 0));
     }
     put_near(&near, e.size, e.mark, out);
-    all
+    Ok(e)
 }
 
 // Puts m bytes of marks to the end of n bytes by going over the rows, where they were too many to be kept near.
@@ -130,30 +110,33 @@ fn put_far(words: &[u64], n: usize, m: usize, out: &mut [u8])
 }
 
 // Writes a table of n bytes with m bytes of marks, which are at their place if they were kept near.
-fn write_table(words: &[u64], text: &[u8], n: usize, m: usize, out: &mut [u8])
-    requires { (before : List ℕ) × Writable words.now text.now n m before out.old }
-    ensures { (before : List ℕ) → Writable words.now text.now n m before out.old → out.new ≡ sets before 0 (bytes_in (table level_most words.now text.now)) }
+fn write_table(table: Table, n: usize, m: usize, out: &mut [u8])
+    requires { (before : List ℕ) × Writable table.words.now table.text.now n m before out.old }
+    ensures { (before : List ℕ) → Writable table.entry.words.now table.entry.text.now n m before out.old
+        → out.new ≡ sets before 0 (bytes_in (tables.table level_most table.entry.words.now table.entry.text.now)) }
 {
-    put_far(words, n, m, out);
-    filling::fill(words, text, out, n, n - m);
+    put_far(table.words, n, m, out);
+    filling::fill(table.words, table.text, out, n, n - m);
 }
 
 // Writes a table to the front of the output within a level limit, or refuses and leaves the output as it is.
-pub fn write_within(limit: usize, words: &[u64], text: &[u8], out: &mut [u8]) -> Written
+pub fn write_within(
+    limit: usize,
+    words: &[u64],
+    text: &[u8],
+    out: &mut [u8],
+) -> Result<usize, Refusal>
     ensures { (written_is result ≡ (outcome.write limit words.now text.now out.old).answer)
         × (out.new ≡ (outcome.write limit words.now text.now out.old).out) }
 {
-    match size_for(limit, words, text, out) {
-        Sized::Refused(r) => Written::Refused(r),
-        Sized::Fits(e) => {
-            write_table(words, text, e.size, e.mark, out);
-            Written::Length(e.size)
-        }
-    }
+    let table = Table { words, text };
+    let e = size_for(limit, table, out)?;
+    write_table(table, e.size, e.mark, out);
+    Ok(e.size)
 }
 
 // Writes a table to the front of the output within 16 levels, or refuses and leaves the output as it is.
-pub fn write(words: &[u64], text: &[u8], out: &mut [u8]) -> Written
+pub fn write(words: &[u64], text: &[u8], out: &mut [u8]) -> Result<usize, Refusal>
     ensures { (written_is result ≡ (outcome.write level_default words.now text.now out.old).answer)
         × (out.new ≡ (outcome.write level_default words.now text.now out.old).out) }
 {

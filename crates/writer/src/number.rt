@@ -1,91 +1,88 @@
 // Numbers, the most common rows: the bytes that each takes where it stands in no array (docs/FORMAT.md, 3.2).
 // A number that is not in the range of its kind takes none.
-ghost use Rattle.std.specs.Prelude.{◌≡◌, true, ℕ, ◌-◌, ◌*◌, ◌/◌, ◌%◌, ◌^◌, ◌≤◌, ◌<◌, min, max, ltb, length};
+ghost use Rattle.std.specs.Prelude.{◌≡◌, true, Some, None, OnSome, ℕ, ◌-◌, ◌*◌, ◌/◌, ◌%◌, ◌^◌, ◌≤◌, ◌<◌, min, ltb, length};
 ghost use Rattle.standard.specs.Choose.{if};
 ghost use Rattle.standard.specs.Kinds.{never, flag, unsigned, signed, numbered, style_of};
 ghost use Rattle.standard.specs.Table.{ranged};
 ghost use Rattle.standard.specs.Encode.{shortest};
+ghost use Rattle.standard.specs.InCode.{kind_is};
 ghost use Rattle.writer.specs.Sizing.{number_size, plain_below, plain_kind};
 
 use standard::kind;
+use standard::kind::Kind;
 
 // A number with no short form.
-fn size_never(number: u64, width: usize) -> usize
+fn size_never(number: u64, width: usize) -> Option<usize>
     requires { width ≤ 8 }
-    ensures { (c : ℕ) → result ≡ if (ltb number (256 ^ width)) (length (shortest never width c number)) 0 }
+    ensures { (c : ℕ) → result ≡ if (ltb number (256 ^ width)) (Some (length (shortest never width c number))) None }
 {
-    if kind::fits_width(number, width) {
-        return 1 + width;
+    if !kind::fits_width(number, width) {
+        return None;
     }
-    0
+    Some(1 + width)
 }
 
-fn size_boolean(number: u64) -> usize
-    ensures { (y x c : ℕ) → result ≡ if (ranged (numbered (flag y x) 1) 0x56 number) (length (shortest (flag y x) 1 c number)) 0 }
+fn size_boolean(number: u64) -> Option<usize>
+    ensures { (y x c : ℕ) → result ≡ if (ranged (numbered (flag y x) 1) 0x56 number) (Some (length (shortest (flag y x) 1 c number))) None }
 {
-    if number <= 1 {
-        return 1;
+    if 1 < number {
+        return None;
     }
-    0
+    Some(1)
 }
 
-fn size_char(number: u64) -> usize
-    ensures { (c : ℕ) → result ≡ if (ranged (numbered never 4) 0x73 number) (length (shortest never 4 c number)) 0 }
+fn size_char(number: u64) -> Option<usize>
+    ensures { (c : ℕ) → result ≡ if (ranged (numbered never 4) 0x73 number) (Some (length (shortest never 4 c number))) None }
 {
-    if kind::is_fair(0x73, number) {
-        return size_never(number, 4);
+    if !Kind::Char.is_fair(number) {
+        return None;
     }
-    0
+    size_never(number, 4)
 }
 
-fn size_unsigned(number: u64, width: usize) -> usize
+fn size_unsigned(number: u64, width: usize) -> Option<usize>
     requires { (1 ≤ width) × (width ≤ 8) }
-    ensures { (z s c : ℕ) → result ≡ if (ltb number (256 ^ width)) (length (shortest (unsigned z s) width c number)) 0 }
+    ensures { (z s c : ℕ) → result ≡ if (ltb number (256 ^ width)) (Some (length (shortest (unsigned z s) width c number))) None }
 {
     if number == 0 {
-        return 1;
+        return Some(1);
     }
     if number < 256 {
-        return 2;
+        return Some(2);
     }
     size_never(number, width)
 }
 
-fn size_signed(number: u64, width: usize) -> usize
+fn size_signed(number: u64, width: usize) -> Option<usize>
     requires { width ≤ 8 }
-    ensures { (s c : ℕ) → result ≡ if (ltb number (256 ^ width)) (length (shortest (signed s) width c number)) 0 }
+    ensures { (s c : ℕ) → result ≡ if (ltb number (256 ^ width)) (Some (length (shortest (signed s) width c number))) None }
 {
     if !kind::fits_width(number, width) {
-        return 0;
+        return None;
     }
     if kind::fits_byte(number, width) {
-        return 2;
+        return Some(2);
     }
-    1 + width
+    Some(1 + width)
 }
 
-// The bytes of a number, by its kind; 0 where the kind holds none.
-pub(crate) fn size_number(kind: u64, number: u64) -> usize
-    ensures { result ≡ number_size (style_of kind) kind number }
+// The bytes of a number, by its kind; none where the kind holds no numbers.
+pub(crate) fn size_number(kind: Kind, number: u64) -> Option<usize>
+    ensures { result ≡ number_size (style_of (kind_is kind)) (kind_is kind) number }
 {
     match kind {
-        0x40 => size_never(number, 0),
-        0x50 => size_never(number, 1),
-        0x51 => size_never(number, 1),
-        0x56 => size_boolean(number),
-        0x60 => size_never(number, 2),
-        0x61 => size_never(number, 2),
-        0x70 => size_unsigned(number, 4),
-        0x71 => size_signed(number, 4),
-        0x72 => size_never(number, 4),
-        0x73 => size_char(number),
-        0x74 => size_never(number, 4),
-        0x80 => size_unsigned(number, 8),
-        0x81 => size_signed(number, 8),
-        0x82 => size_never(number, 8),
-        0x83 => size_never(number, 8),
-        0x84 => size_never(number, 8),
-        _ => 0,
+        Kind::Null => size_never(number, 0),
+        Kind::Ubyte | Kind::Byte => size_never(number, 1),
+        Kind::Boolean => size_boolean(number),
+        Kind::Ushort | Kind::Short => size_never(number, 2),
+        Kind::Uint => size_unsigned(number, 4),
+        Kind::Int => size_signed(number, 4),
+        Kind::Char => size_char(number),
+        Kind::Float | Kind::Decimal32 => size_never(number, 4),
+        Kind::Ulong => size_unsigned(number, 8),
+        Kind::Long => size_signed(number, 8),
+        Kind::Double | Kind::Timestamp | Kind::Decimal64 => size_never(number, 8),
+        _ => None,
     }
 }
 
@@ -120,24 +117,6 @@ fn plain_most(upper: u64) -> u64
     }
 }
 
-fn larger(a: u64, b: u64) -> u64
-    ensures { result ≡ max a b }
-{
-    if a < b {
-        return b;
-    }
-    a
-}
-
-fn smaller(a: usize, b: usize) -> usize
-    ensures { result ≡ min a b }
-{
-    if a < b {
-        return a;
-    }
-    b
-}
-
 // The bytes behind its code that a number needs whose short form has 8 - low bits: 0, 1 or all, which is at most 8.
 fn plain_need(low: u64, number: u64) -> usize
     requires { low ≤ 8 }
@@ -156,7 +135,7 @@ fn plain_need(low: u64, number: u64) -> usize
 fn plain_bytes(kind: u64, number: u64) -> usize
     requires { (kind < 144) × (plain_kind kind ≡ true)
         × (number < 256 ^ (2 ^ (kind / 16) / 32)) × (kind % 16 ≡ 1 → number * 2 < 256 ^ (2 ^ (kind / 16) / 32)) }
-    ensures { result ≡ number_size (style_of kind) kind number }
+    ensures { Some result ≡ number_size (style_of kind) kind number }
 {
     let upper = kind / 16;
     let low = kind % 16;
@@ -164,26 +143,23 @@ fn plain_bytes(kind: u64, number: u64) -> usize
     let width = (1usize << upper) / 32;
     // a kind with no short form needs all its bytes, a signed one at least one
     let floor = low + 4096 * (low / 2 + (8 - upper) / 2);
-    1 + smaller(width, plain_need(low, larger(number, floor)))
+    1 + width.min(plain_need(low, number.max(floor)))
 }
 
-// The bytes of a plain number; 0 where it is not plain.
-pub(crate) fn plain_size(kind: u64, number: u64) -> usize
-    ensures { 0 < result → result ≡ number_size (style_of kind) kind number }
+// The bytes of a plain number.
+pub(crate) fn plain_size(kind: u64, number: u64) -> Option<usize>
+    ensures { OnSome result (λ size. Some size ≡ number_size (style_of kind) kind number) }
 {
     let upper = kind / 16;
     let low = kind % 16;
-    if upper < 4 {
-        return 0;
-    }
-    if 8 < upper {
-        return 0;
+    if upper < 4 || 8 < upper {
+        return None;
     }
     if plain_below(upper) <= low {
-        return 0;
+        return None;
     }
     if (plain_most(upper) >> (low % 2)) < number {
-        return 0;
+        return None;
     }
-    plain_bytes(kind, number)
+    Some(plain_bytes(kind, number))
 }

@@ -1,47 +1,67 @@
-// The checks of one row (docs/FORMAT.md, 2 and 5.2).
+// A value table, and the checks of one of its rows (docs/FORMAT.md, 2 and 5.2).
 ghost use Rattle.std.specs.Prelude.{◌≡◌, ◌*◌, ◌≤◌, length, drop};
 ghost use Rattle.standard.specs.Answer.{element_unfit, number_outside};
 ghost use Rattle.standard.specs.Choose.{if};
 ghost use Rattle.standard.specs.Table.{allowed, naming, spot_in};
-ghost use Rattle.standard.specs.InCode.{style_is};
-ghost use Rattle.writer.specs.Rows.{check};
-ghost use Rattle.writer.specs.InCode.{spot_is, checked_is, Styled};
+ghost use Rattle.standard.specs.InCode.{kind_is, reason_is, style_is};
+ghost use Rattle.writer.specs.Rows.{Front, check};
+ghost use Rattle.writer.specs.InCode.{spot_is, checked_is};
 
-use standard::kind::Style;
-use standard::{kind, refusal};
+use standard::kind;
+use standard::kind::{Kind, Style};
+use standard::refusal::{Reason, Refusal};
 
-// Where a row stands: in no array, or in one that tells that kind of its elements.
 #[derive(Clone, Copy)]
-pub enum IsArrayElement {
-    False,
-    OfKind(u64),
+pub struct Table<'a> {
+    pub words: &'a [u64],
+    pub text: &'a [u8],
 }
 
-// A good row; the number of its refusal; or the faulty byte of its text.
-#[derive(Clone, Copy)]
-pub enum Checked {
-    Good(Style, u64, u64),
-    Bad(usize),
-    Faulty(usize),
+impl<'a> Table<'a> {
+    // The two words of a row, its kind and its number, where it has both.
+    pub fn row(self, row: usize) -> Option<(u64, u64)>
+        requires { 2 * row ≤ length self.words.now }
+        ensures { Front (drop (2 * row) self.entry.words.now) result }
+    {
+        let k = 2 * row;
+        if self.words.len() - k < 2 {
+            return None;
+        }
+        Some((self.words[k], self.words[k + 1]))
+    }
 }
 
-fn is_allowed(spot: IsArrayElement, kind: u64) -> bool
-    ensures { result ≡ allowed (spot_is spot) kind }
+// A good row.
+#[derive(Clone, Copy)]
+pub struct Row {
+    pub kind: Kind,
+    pub number: u64,
+}
+
+pub(crate) fn refuse(reason: Reason, place: usize) -> Refusal
+    ensures { result ≡ record { reason = reason; place = place } }
 {
-    match spot {
-        IsArrayElement::False => true,
-        IsArrayElement::OfKind(told) => kind == told,
+    Refusal { reason, place }
+}
+
+// May a row of that kind stand there: in no array, or in one that tells a kind of its elements.
+fn is_allowed(told: Option<Kind>, kind: Kind) -> bool
+    ensures { result ≡ allowed (spot_is told) (kind_is kind) }
+{
+    match told {
+        None => true,
+        Some(told) => kind == told,
     }
 }
 
 // The refusal of a number that is not in range: an array that tells a kind which arrays cannot hold is refused for that.
-fn outside(style: Style, number: u64) -> usize
-    ensures { result ≡ if (naming (spot_in (style_is style) number)) number_outside element_unfit }
+fn outside(style: Style, number: u64) -> Reason
+    ensures { reason_is result ≡ if (naming (spot_in (style_is style) number)) number_outside element_unfit }
 {
     if is_naming(style, number) {
-        return refusal::NUMBER_OUTSIDE;
+        return Reason::NumberOutside;
     }
-    refusal::ELEMENT_UNFIT
+    Reason::ElementUnfit
 }
 
 // May a row say what its children are: an array may not tell a kind that arrays cannot hold.
@@ -49,55 +69,45 @@ fn is_naming(style: Style, number: u64) -> bool
     ensures { result ≡ naming (spot_in (style_is style) number) }
 {
     match style {
-        Style::Foreign => true,
-        Style::Numbered(_, _) => true,
-        Style::Blob(_) => true,
-        Style::Lettered(_) => true,
-        Style::Listed(_, _) => true,
-        Style::Mapped(_) => true,
         Style::Arrayed(_) => kind::is_nameable(number / kind::KIND_UNIT),
-        Style::Describing => true,
+        _ => true,
     }
 }
 
-// The row at `row`, whose text begins at `from`, where so many levels are left.
+// The row at `row`, whose text begins at `from`, where so many levels are left, in no array or in one that tells that kind of its elements.
 pub(crate) fn check_row(
-    words: &[u64],
-    letters: &[u8],
+    table: Table,
     row: usize,
     from: usize,
     levels: usize,
-    spot: IsArrayElement,
-) -> Checked
-    requires { (2 * row ≤ length words.now) × (from ≤ length letters.now) }
-    ensures { (checked_is row result ≡ check levels (spot_is spot) row from (drop (2 * row) words.now) (drop from letters.now)) × Styled result }
+    told: Option<Kind>,
+) -> Result<Row, Refusal>
+    requires { (2 * row ≤ length table.words.now) × (from ≤ length table.text.now) }
+    ensures { checked_is result ≡ check levels (spot_is told) row from (drop (2 * row) table.entry.words.now) (drop from table.entry.text.now) }
 {
-    let k = 2 * row;
-    if words.len() - k < 2 {
-        return Checked::Bad(refusal::ROWS_AMISS);
-    }
-    let kind = words[k];
-    let number = words[k + 1];
-    let style = kind::style_of(kind);
-    if !style.is_kind() {
-        return Checked::Bad(refusal::KIND_UNKNOWN);
-    }
+    let Some((word, number)) = table.row(row) else {
+        return Err(refuse(Reason::RowsAmiss, row));
+    };
+    let Ok(kind) = Kind::try_from(word) else {
+        return Err(refuse(Reason::KindUnknown, row));
+    };
     if levels == 0 {
-        return Checked::Bad(refusal::TOO_DEEP);
+        return Err(refuse(Reason::TooDeep, row));
     }
-    if !is_allowed(spot, kind) {
-        return Checked::Bad(refusal::ELEMENT_UNFIT);
+    if !is_allowed(told, kind) {
+        return Err(refuse(Reason::ElementUnfit, row));
     }
+    let style = kind.style();
     if !style.takes(kind, number) {
-        return Checked::Bad(outside(style, number));
+        return Err(refuse(outside(style, number), row));
     }
     let count = style.letters(number) as usize;
-    if letters.len() - from < count {
-        return Checked::Bad(refusal::TEXT_AMISS);
+    if table.text.len() - from < count {
+        return Err(refuse(Reason::TextAmiss, row));
     }
-    let good = text::good_length(kind, letters, from, count);
+    let good = text::good_length(kind, table.text, from, count);
     if good < count {
-        return Checked::Faulty(from + good);
+        return Err(refuse(Reason::TextAmiss, from + good));
     }
-    Checked::Good(style, kind, number)
+    Ok(Row { kind, number })
 }

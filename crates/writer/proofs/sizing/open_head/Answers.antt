@@ -1,9 +1,0 @@
--- A described value has its code alone before its children.
-use borrow.Author.Tests.{eq-eqb, ne_eqb}
-use Rattle.writer.proofs.sizing.open_head.Goals as goal
-
-pub returns-then-kind-eq0 : goal.returns-then-kind-eq0
-returns-then-kind-eq0 c = rw (eq-eqb c.args.kind 0 c.if-kind-eq0.true)
-
-pub returns : goal.returns
-returns c = rw (ne_eqb c.args.kind 0 c.if-kind-eq0.false, ne_eqb c.args.kind 0xf0 c.requires) c.compound_width.ensures
