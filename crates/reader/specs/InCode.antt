@@ -28,8 +28,12 @@ abbrev pub place_of : Stop → Place
 place_of (Refused f) = at f.place
 place_of (Faulty p) = byte p
 
-abbrev pub stop_is : Stop → Answer outcome.Extent
+abbrev pub stop_is : {A : Type 0} → Stop → Answer A
 stop_is s = refuse (number_of s) (place_of s)
+
+abbrev pub found_is : {A : Type 0} → Result A Stop → Answer A
+found_is (Ok a) = got a
+found_is (Err s) = stop_is s
 
 abbrev pub counted_is : Result Extent Stop → Answer outcome.Extent
 counted_is (Ok e) = got (extent_is e)
@@ -44,9 +48,9 @@ abbrev pub body_in : (width end : ℕ) → (room : List ℕ) → List ℕ
 body_in w e r = take (e - (w + w)) (drop (w + w) r)
 
 -- the count, the body and what is behind it
-abbrev pub body_is : (width : ℕ) → (room : List ℕ) → Result Body Refusal → Answer (ℕ × List ℕ × List ℕ)
+abbrev pub body_is : (width : ℕ) → (room : List ℕ) → Result Body Stop → Answer (ℕ × List ℕ × List ℕ)
 body_is w r (Ok b) = got (b.count, body_in w b.end r, drop b.end r)
-body_is w r (Err f) = refusal_is f
+body_is w r (Err s) = stop_is s
 
 -- what a step of the walker finds at a place of the bytes, and the place behind it: where it finds no value, that stays
 abbrev pub stepped_is : (place : ℕ) → Result (Option (Range ℕ)) Refusal → outcome.Stepping

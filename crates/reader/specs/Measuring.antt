@@ -1,14 +1,12 @@
 -- What measuring finds of a value, from what reading it gives (standard/specs/Read.antt): a count for each thing that reading builds.
-use Rattle.std.specs.Prelude.{ℕ, zero, suc, ◌+◌, ◌-◌, ◌^◌, ◌≤◌, ◌<◌, ◌≡◌, List, [], ◌∷◌, T, eqb, leb, length, Option, Some, None, Result, Ok, Err}
-use Rattle.standard.specs.Answer.{Answer, got, refuse, Place, at, byte, input_short, payload_bad, size_amiss, rows_short, text_short}
+use Rattle.std.specs.Prelude.{ℕ, zero, suc, ◌+◌, ◌-◌, ◌^◌, ◌≤◌, ◌<◌, ◌≡◌, List, [], ◌∷◌, T, eqb, leb, length, Bool, true, false, Option, Some, None}
+use Rattle.standard.specs.Answer.{Answer, got, refuse, need, ◌>>=◌, ◌>>◌, Place, at, byte, too_deep, element_unfit, input_short, code_unknown, payload_bad, size_amiss, rows_short, text_short}
 use Rattle.standard.specs.Choose.{if}
-use Rattle.standard.specs.Codes.{Layout, layout_of, is_code, element}
+use Rattle.standard.specs.Codes.{Layout, unknown, described, scalar, compound, array, layout_of, is_code, element}
 use Rattle.standard.specs.Tree.{Tree, Trees, tall, tall*, text, text*}
 use Rattle.standard.specs.Read.{coded, payload}
 use Rattle.standard.specs.Outcomes.{Extent}
 use Rattle.standard.specs.InCode.{reason_is}
-use Rattle.standard.specs.declared.refusal.Reason.{Reason}
-use Rattle.standard.specs.declared.refusal.Reason.TheVariants.{TooDeep, ElementUnfit, InputShort, CodeUnknown}
 use Rattle.reader.specs.declared.measuring.Tally.{Tally}
 use Rattle.reader.specs.declared.measuring.Start.{Start}
 
@@ -61,12 +59,6 @@ above e = record { length = e.length; rows = e.rows + 1; text = e.text }
 unfoldable pub closed : (room whole place : ℕ) → Extent → Answer Extent
 closed n w p e = if (eqb e.length n) (fits w (e.rows + 1) e.text) (refused size_amiss p)
 
--- a refusal has that place, but for that of a byte of text
-unfoldable pub held_at : (place : ℕ) → Answer Extent → Answer Extent
-held_at p (got e) = got e
-held_at p (refuse x (at q)) = refuse x (at p)
-held_at p (refuse x (byte q)) = refuse x (byte q)
-
 -- there is room for one row more
 abbrev pub Roomy : Answer Extent → Type 0
 Roomy (got e) = e.rows + 1 < 2 ^ 64
@@ -91,17 +83,26 @@ abbrev pub Taking : (given : Option ℕ) → Type 0
 Taking None = Unit {0}
 Taking (Some e) = T (element (layout_of e))
 
--- the code of a value whose room begins at a, and where its payload begins
-unfoldable pub code_at : (given : Option ℕ) → (levels a : ℕ) → List ℕ → Result Start Reason
-code_at None zero a r = Err TooDeep
-code_at None (suc l) a [] = Err InputShort
-code_at None (suc l) a (c ∷ r) = Ok (record { code = c; from = a + 1 })
-code_at (Some c) zero a r = Err TooDeep
-code_at (Some c) (suc l) a r = Ok (record { code = c; from = a })
+-- the code of a value at place p whose room begins at a, and where its payload begins
+unfoldable pub code_at : (given : Option ℕ) → (levels a place : ℕ) → List ℕ → Answer Start
+code_at None zero a p r = refuse too_deep (at p)
+code_at None (suc l) a p [] = refuse input_short (at p)
+code_at None (suc l) a p (c ∷ r) = got (record { code = c; from = a + 1 })
+code_at (Some c) zero a p r = refuse too_deep (at p)
+code_at (Some c) (suc l) a p r = got (record { code = c; from = a })
 
--- may a code with that layout stand for the elements of an array
-unfoldable pub element_of : Layout → Result (Unit {0}) Reason
-element_of y = if (is_code y) (if (element y) (Ok tt) (Err ElementUnfit)) (Err CodeUnknown)
+-- may a code with that layout stand for the elements of an array, whose body begins at place p
+unfoldable pub element_of : (place : ℕ) → Layout → Answer (Unit {0})
+element_of p y = do
+  need (is_code y) code_unknown (at p)
+  need (element y) element_unfit (at p)
+
+unfoldable pub is_compound : Layout → Bool
+is_compound unknown = false
+is_compound described = false
+is_compound (scalar s) = false
+is_compound (compound w) = true
+is_compound (array w) = false
 
 -- behind that code, what has w bytes is a row without text, whatever the bytes are
 abbrev pub Plain : (code width : ℕ) → Type 0

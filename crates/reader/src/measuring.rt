@@ -3,8 +3,7 @@
 // The functions go as the definition of reading does, by its names and in its order of checks, and count where it builds a tree.
 // They call each other with fewer levels left; values that stand side by side are taken in one loop. A room is a part of the
 // caller's bytes, and nothing beyond it is looked at.
-ghost use Rattle.std.specs.Prelude.{◌≡◌, true, ℕ, ◌+◌, ◌^◌, ◌≤◌, ◌<◌, T, length, take, drop, IfOk, MatchOption};
-ghost use Rattle.standard.specs.Answer as answer;
+ghost use Rattle.std.specs.Prelude.{◌≡◌, true, false, ℕ, ◌+◌, ◌^◌, ◌≤◌, ◌<◌, T, length, take, drop, IfOk, MatchOption};
 ghost use Rattle.standard.specs.Bytes.{unbe};
 ghost use Rattle.standard.specs.Codes as codes;
 ghost use Rattle.standard.specs.Codes.{layout_of, kind_of};
@@ -13,9 +12,9 @@ ghost use Rattle.standard.specs.Read as read;
 ghost use Rattle.standard.specs.Outcomes as outcome;
 ghost use Rattle.standard.specs.Outcomes.{level_default};
 ghost use Rattle.standard.specs.InCode.{kind_is, reason_is};
-ghost use Rattle.reader.specs.Entries.{narrow, sure, plain_below, plain_width, compound_width};
-ghost use Rattle.reader.specs.InCode.{measured_is, extent_is, Settled, stop_is, counted_is, body_is};
-ghost use Rattle.reader.specs.Measuring.{refused, untold_is, block, measured, several, contents, above, closed, held_at, below, reads, reach, code_at, element_of, tally_is, Taking, Plain};
+ghost use Rattle.reader.specs.Entries.{narrow, sure, plain_below, plain_width};
+ghost use Rattle.reader.specs.InCode.{measured_is, extent_is, Settled, stop_is, found_is, counted_is, body_is};
+ghost use Rattle.reader.specs.Measuring.{untold_is, block, measured, several, contents, above, closed, below, reads, reach, code_at, element_of, is_compound, tally_is, Taking, Plain};
 ghost use Rattle.reader.specs.declared.measuring.Stop.TheVariants.{Refused};
 
 use crate::number::narrow_at;
@@ -38,14 +37,6 @@ enum Stop {
     Refused(Refusal),
     // Bad text, by its faulty byte, whose place is the same in an array.
     Faulty(usize),
-}
-
-impl From<Refusal> for Stop {
-    ghost from_gives = { λ refusal stop. stop ≡ Refused refusal };
-
-    fn from(refusal: Refusal) -> Stop {
-        Stop::Refused(refusal)
-    }
 }
 
 impl From<Stop> for Refusal {
@@ -94,10 +85,10 @@ struct Compound {
     width: usize,
 }
 
-fn refuse(reason: Reason, place: usize) -> Result<Extent, Stop>
-    ensures { counted_is result ≡ refused (reason_is reason) place }
+fn refused(reason: Reason, place: usize) -> Stop
+    ensures { result ≡ Refused (record { reason = reason; place = place }) }
 {
-    Err(Stop::Refused(Refusal { reason, place }))
+    Stop::Refused(Refusal { reason, place })
 }
 
 // A scalar of so many bytes, the last of them text.
@@ -105,7 +96,7 @@ fn fixed(s: &[u8], width: usize, text: usize, place: usize) -> Result<Extent, St
     ensures { counted_is result ≡ block (length s.now) width text place }
 {
     if s.len() < width {
-        return refuse(Reason::InputShort, place);
+        return Err(refused(Reason::InputShort, place));
     }
     Ok(Extent {
         length: width,
@@ -130,10 +121,10 @@ fn whole(s: &[u8], width: usize, kind: Kind, place: usize) -> Result<Extent, Sto
     ensures { counted_is result ≡ measured (length s.now) (read.leaf (codes.whole width) (kind_is kind) place s.now) }
 {
     if s.len() < width {
-        return refuse(Reason::InputShort, place);
+        return Err(refused(Reason::InputShort, place));
     }
     if !fair_at(s, width, kind) {
-        return refuse(Reason::PayloadBad, place);
+        return Err(refused(Reason::PayloadBad, place));
     }
     Ok(Extent {
         length: width,
@@ -147,11 +138,11 @@ fn sized(s: &[u8], width: usize, kind: Kind, place: usize) -> Result<Extent, Sto
     ensures { counted_is result ≡ measured (length s.now) (read.leaf (codes.sized width) (kind_is kind) place s.now) }
 {
     if s.len() < width {
-        return refuse(Reason::InputShort, place);
+        return Err(refused(Reason::InputShort, place));
     }
     let count = narrow_at(s, 0, width) as usize;
     if s.len() - width < count {
-        return refuse(Reason::InputShort, place);
+        return Err(refused(Reason::InputShort, place));
     }
     let good = text::good_length(kind, s, width, count);
     if good < count {
@@ -165,21 +156,20 @@ fn sized(s: &[u8], width: usize, kind: Kind, place: usize) -> Result<Extent, Sto
 }
 
 // The size and the count before a body, of so many bytes each.
-fn fields(s: &[u8], width: usize, place: usize) -> Result<Body, Refusal>
+fn fields(s: &[u8], width: usize, place: usize) -> Result<Body, Stop>
     requires { T (narrow width) }
     ensures { (body_is width s.now result ≡ read.fields place width s.now)
         × IfOk result (λ b. (width + width ≤ b.end) × (b.end ≤ length s.now) × (b.count < 2 ^ 32)) }
 {
-    let refuse = |reason| Err(Refusal { reason, place });
     if s.len() < width {
-        return refuse(Reason::InputShort);
+        return Err(refused(Reason::InputShort, place));
     }
     let size = narrow_at(s, 0, width) as usize;
     if size < width {
-        return refuse(Reason::SizeAmiss);
+        return Err(refused(Reason::SizeAmiss, place));
     }
     if s.len() - width < size {
-        return refuse(Reason::InputShort);
+        return Err(refused(Reason::InputShort, place));
     }
     Ok(Body {
         count: narrow_at(s, width, width) as usize,
@@ -198,28 +188,30 @@ fn is_paired(kind: Kind, count: usize) -> bool
 }
 
 // A payload of an element has a byte at least.
-fn filled(width: usize) -> Result<(), Reason>
-    ensures { result ≡ element_of (codes.scalar (codes.whole width)) }
+fn filled(width: usize, place: usize) -> Result<(), Stop>
+    ensures { found_is result ≡ element_of place (codes.scalar (codes.whole width)) }
 {
     if width == 0 {
-        return Err(Reason::ElementUnfit);
+        return Err(refused(Reason::ElementUnfit, place));
     }
     Ok(())
 }
 
-// May a code stand for the elements of an array.
-fn element_of(code: u8) -> Result<(), Reason>
-    ensures { result ≡ element_of (layout_of code) }
+// May a code stand for the elements of an array, whose body begins at that place.
+fn element_of(code: u8, place: usize) -> Result<(), Stop>
+    ensures { found_is result ≡ element_of place (layout_of code) }
 {
-    let entry = format_code::entry_of(code).ok_or(Reason::CodeUnknown)?;
+    let Some(entry) = format_code::entry_of(code) else {
+        return Err(refused(Reason::CodeUnknown, place));
+    };
     match entry.layout {
-        Layout::Described | Layout::Constant(_) => Err(Reason::ElementUnfit),
+        Layout::Described | Layout::Constant(_) => Err(refused(Reason::ElementUnfit, place)),
         Layout::Small(_) => Ok(()),
         Layout::Whole(width)
         | Layout::Raw(width)
         | Layout::Sized(width)
         | Layout::Compound(width)
-        | Layout::Array(width) => filled(width),
+        | Layout::Array(width) => filled(width, place),
     }
 }
 
@@ -240,7 +232,7 @@ fn done(values: Extent, room: usize, whole: usize, place: usize) -> Result<Exten
     ensures { counted_is result ≡ closed room whole place (extent_is values) }
 {
     if values.length != room {
-        return refuse(Reason::SizeAmiss, place);
+        return Err(refused(Reason::SizeAmiss, place));
     }
     Ok(Extent {
         length: whole,
@@ -250,7 +242,7 @@ fn done(values: Extent, room: usize, whole: usize, place: usize) -> Result<Exten
 
 // A refusal in the contents of an array has the array's place, but for that of a byte of text.
 fn held(stop: Stop, place: usize) -> Stop
-    ensures { stop_is result ≡ held_at place (stop_is stop) }
+    ensures { stop_is result ≡ read.held place (stop_is stop) }
 {
     match stop {
         Stop::Refused(refusal) => Stop::Refused(Refusal { place, ..refusal }),
@@ -258,19 +250,26 @@ fn held(stop: Stop, place: usize) -> Stop
     }
 }
 
-// The code of a value, which is its first byte unless the value stands behind one that is given, as the elements of an array do.
-fn code_at(s: &[u8], at: usize, given: Option<u8>, levels: usize) -> Result<Start, Reason>
-    requires { at ≤ length s.now }
-    ensures { result ≡ code_at given levels at (drop at s.now) }
+// The code of a value that begins there, which is its first byte unless the value stands behind one that is given, as the elements of
+// an array do.
+fn code_at(
+    s: &[u8],
+    at: usize,
+    given: Option<u8>,
+    place: usize,
+    levels: usize,
+) -> Result<Start, Stop>
+    requires { (at ≤ length s.now) × (place + at < 2 ^ 64) }
+    ensures { found_is result ≡ code_at given levels at (place + at) (drop at s.now) }
 {
     if levels == 0 {
-        return Err(Reason::TooDeep);
+        return Err(refused(Reason::TooDeep, place + at));
     }
     if let Some(code) = given {
         return Ok(Start { code, from: at });
     }
     if at == s.len() {
-        return Err(Reason::InputShort);
+        return Err(refused(Reason::InputShort, place + at));
     }
     Ok(Start {
         code: s[at],
@@ -311,7 +310,7 @@ fn plain_width(code: u8) -> usize
 
 // A list or a map, by its code.
 fn compound_of(code: u8) -> Option<Compound>
-    ensures { MatchOption result (compound_width code ≡ 0) (λ c. (kind_of code ≡ kind_is c.kind) × (layout_of code ≡ codes.compound c.width) × T (narrow c.width)) }
+    ensures { MatchOption result (is_compound (layout_of code) ≡ false) (λ c. (kind_of code ≡ kind_is c.kind) × (layout_of code ≡ codes.compound c.width) × T (narrow c.width)) }
 {
     match code {
         format_code::LIST_8 => Some(Compound {
@@ -370,7 +369,7 @@ fn untold(reason: Reason, place: usize, kept: usize) -> Result<Extent, Stop>
     if kept == 1 {
         return Err(Stop::Faulty(place));
     }
-    refuse(reason, place)
+    Err(refused(reason, place))
 }
 
 // So many values, one after another, where so many levels are left.
@@ -389,11 +388,8 @@ fn many(
     let mut at: usize = 0;
     let mut rows: usize = 0;
     let mut text: usize = 0;
-    for _taken in 0..count {
-        let start = match code_at(s, at, given, levels) {
-            Ok(start) => start,
-            Err(reason) => return refuse(reason, place + at),
-        };
+    for _ in 0..count {
+        let start = code_at(s, at, given, place, levels)?;
         let end = start.from + plain_width(start.code);
         if is_plain(start.code) && end <= s.len() {
             at = end;
@@ -430,11 +426,11 @@ fn payload(s: &[u8], code: u8, place: usize, levels: usize) -> Tally
 // What stands behind a code that is not a list's or a map's.
 #[cycle(array_behind_compound_inside_items_many_payload)]
 fn behind(s: &[u8], code: u8, place: usize, levels: usize) -> Result<Extent, Stop>
-    requires { (place + 1 + length s.now < 2 ^ 63) × (0 < levels) × (compound_width code ≡ 0) }
+    requires { (place + 1 + length s.now < 2 ^ 63) × (0 < levels) × (is_compound (layout_of code) ≡ false) }
     ensures { counted_is result ≡ measured (length s.now) (read.payload levels code place s.now) }
 {
     let Some(entry) = format_code::entry_of(code) else {
-        return refuse(Reason::CodeUnknown, place);
+        return Err(refused(Reason::CodeUnknown, place));
     };
     match entry.layout {
         Layout::Described => Ok(row_above(many(s, None, 2, place + 1, levels - 1)?)),
@@ -456,7 +452,7 @@ fn compound(s: &[u8], width: usize, kind: Kind, place: usize, levels: usize) -> 
 {
     let body = fields(s, width, place)?;
     if !is_paired(kind, body.count) {
-        return refuse(Reason::SizeAmiss, place);
+        return Err(refused(Reason::SizeAmiss, place));
     }
     let from = width + width;
     let values = many(
@@ -501,10 +497,10 @@ fn inside(
 {
     if 0 < count {
         if levels == 0 {
-            return refuse(Reason::TooDeep, place);
+            return Err(refused(Reason::TooDeep, place));
         }
         if body.len() == 0 {
-            return refuse(Reason::InputShort, place);
+            return Err(refused(Reason::InputShort, place));
         }
     }
     if body.len() == 0 {
@@ -530,9 +526,7 @@ fn items(
     requires { (place + 1 + length s.now < 2 ^ 63) × (count < 2 ^ 32) }
     ensures { counted_is result ≡ contents whole (read.items (below levels) place count code s.now) }
 {
-    if let Err(reason) = element_of(code) {
-        return refuse(reason, place);
-    }
+    element_of(code, place)?;
     let values = many(s, Some(code), count, place, levels)?;
     done(values, s.len(), whole, place)
 }
