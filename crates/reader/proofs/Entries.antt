@@ -2,6 +2,7 @@
 use Prim.Native.Nat.{ℕ, zero, suc, ◌*◌, ◌/◌, ◌%◌, ◌^◌, ◌≤◌, ◌<◌}
 use mathlib.Core.Path.{◌≡◌, refl, sym, ap, ◌∙◌, subst}
 use mathlib.Core.List.{List, [], ◌∷◌}
+use Rattle.std.specs.Prelude.{Some, None}
 use mathlib.Core.Bool.{Bool, true, false, not, ◌&&◌, ◌||◌}
 use native.Mathlib.Omega.{arith}
 use borrow.Author.Tests.{eqb-true, eqb-false, ne_eqb}
@@ -10,11 +11,12 @@ use Rattle.standard.specs.Choose.{lookup}
 use Rattle.standard.specs.Codes
 use Rattle.standard.specs.Codes.{codes, entry, entry_of, constant, whole, small, raw, sized, unknown, described, scalar, compound, array, layout_of, kind_of, filled, element}
 use Rattle.standard.specs.Kinds.{fair}
-use Rattle.standard.specs.InCode.{layout_is, entry_is}
+use Rattle.standard.specs.InCode.{kind_is, layout_is, entry_is}
 use Rattle.standard.specs.declared.format_code.Layout.{Layout}
 use Rattle.standard.specs.declared.format_code.Entry.{Entry}
-use Rattle.standard.specs.Facts.{T_true, and_left, and_right, if_case}
-use Rattle.reader.specs.Entries.{narrow, usual, judged, sure, plain_code, plain_width, short_code, compound_width, compound_kind}
+use Rattle.standard.specs.Facts.{T_true, T_false, and_left, and_right, if_case}
+use Rattle.reader.specs.Entries.{narrow, usual, judged, sure, plain_code, plain_width, short_code}
+use Rattle.reader.specs.Measuring.{is_compound}
 
 all : {A : Type 0} → (A → Bool) → List A → Bool
 all P [] = true
@@ -30,11 +32,14 @@ pub table : (c : ℕ) → T (sure (kind_of c) (layout_of c))
 unfolding entry_of codes sure all fair
 table c = lookup_all (λ e. sure e.kind e.layout) (λ e. e.code) (entry c 0 unknown) c codes tt tt
 
--- of an entry that was looked up
-pub entry_layout : (c : ℕ) (e : Entry) (y : Layout) → entry_is c e ≡ entry_of c → e.1 ≡ y → layout_of c ≡ layout_is y
+-- of an entry that was looked up, or a byte that is no code
+pub entry_layout : (c : ℕ) (e : Entry) (y : Layout) → entry_is c (Some e) ≡ entry_of c → e.layout ≡ y → layout_of c ≡ layout_is y
 entry_layout c e y h i = sym (ap (λ x. x.layout) h) ∙ ap layout_is i
 
-pub entry_sure : (c : ℕ) (e : Entry) (y : Layout) → entry_is c e ≡ entry_of c → e.1 ≡ y → T (sure e.0 (layout_is y))
+pub entry_none : (c : ℕ) → entry_is c None ≡ entry_of c → layout_of c ≡ unknown
+entry_none c h = sym (ap (λ x. x.layout) h)
+
+pub entry_sure : (c : ℕ) (e : Entry) (y : Layout) → entry_is c (Some e) ≡ entry_of c → e.layout ≡ y → T (sure (kind_is e.kind) (layout_is y))
 entry_sure c e y h i = rw (← i) (subst (λ (x : Codes.Entry). T (sure x.kind x.layout)) (sym h) (table c))
 
 -- Widths
@@ -104,38 +109,11 @@ wides c h = all_upto (λ c. not (element (layout_of c)) || (short_code c || eqb 
 pub wide_kind : (c : ℕ) → c < 256 → T (element (layout_of c)) → short_code c ≡ false → kind_of c ≡ c
 wide_kind c h t e = eqb→eq (kind_of c) c (either (short_code c) _ (either (not (element (layout_of c))) _ (wides c h) (rw (T_true (element (layout_of c)) t))) e)
 
--- a compound of that width and kind, or none and no width
-agrees : (width kind k : ℕ) → Codes.Layout → Bool
-agrees w k x unknown = eqb w 0
-agrees w k x described = eqb w 0
-agrees w k x (scalar s) = eqb w 0
-agrees w k x (compound v) = leb 1 w && (eqb v w && eqb x k)
-agrees w k x (array v) = eqb w 0
+-- the codes of lists and maps
+compounds : (c : ℕ) → c < 256 → T (eqb c 0xc0 || (eqb c 0xc1 || (eqb c 0xd0 || (eqb c 0xd1 || not (is_compound (layout_of c))))))
+unfolding lookup entry_of codes is_compound all upto
+compounds c h = all_upto (λ c. eqb c 0xc0 || (eqb c 0xc1 || (eqb c 0xd0 || (eqb c 0xd1 || not (is_compound (layout_of c)))))) 256 c tt h
 
-agrees_some : (w k x : ℕ) (y : Codes.Layout) → T (agrees w k x y) → 0 < w → (y ≡ compound w) × (x ≡ k)
-unfolding agrees
-agrees_some w k x unknown t h = absurd (omega (arith, eqb→eq w 0 t))
-agrees_some w k x described t h = absurd (omega (arith, eqb→eq w 0 t))
-agrees_some w k x (scalar s) t h = absurd (omega (arith, eqb→eq w 0 t))
-agrees_some w k x (compound v) t h =
-    let u = and_right (leb 1 w) (eqb v w && eqb x k) t in
-    (ap compound (eqb→eq v w (and_left (eqb v w) (eqb x k) u)), eqb→eq x k (and_right (eqb v w) (eqb x k) u))
-agrees_some w k x (array v) t h = absurd (omega (arith, eqb→eq w 0 t))
-
-agrees_none : (w k x v : ℕ) → T (agrees w k x (compound v)) → w ≤ 0 → ⊥
-unfolding agrees
-agrees_none w k x v t h = omega (arith, leb→le 1 w (and_left (leb 1 w) (eqb v w && eqb x k) t))
-
-compounds : (c : ℕ) → c < 256 → T (agrees (compound_width c) (compound_kind c) (kind_of c) (layout_of c))
-unfolding lookup entry_of codes compound_width compound_kind agrees all upto
-compounds c h = all_upto (λ c. agrees (compound_width c) (compound_kind c) (kind_of c) (layout_of c)) 256 c tt h
-
-pub compound_some : (c : ℕ) → c < 256 → 0 < compound_width c → (layout_of c ≡ compound (compound_width c)) × (kind_of c ≡ compound_kind c)
-compound_some c h i = agrees_some (compound_width c) (compound_kind c) (kind_of c) (layout_of c) (compounds c h) i
-
-pub compound_none : (c v : ℕ) → c < 256 → compound_width c ≤ 0 → layout_of c ≡ compound v → ⊥
-compound_none c v h i e = agrees_none (compound_width c) (compound_kind c) (kind_of c) v (subst (λ (y : Codes.Layout). T (agrees (compound_width c) (compound_kind c) (kind_of c) y)) e (compounds c h)) i
-
-pub compound_narrow : (c : ℕ) → c < 256 → 0 < compound_width c → T (narrow (compound_width c))
-unfolding sure
-compound_narrow c h i = subst (λ (y : Codes.Layout). T (sure (kind_of c) y)) (compound_some c h i).0 (table c)
+pub no_compound : (c : ℕ) → c < 256 → (c ≡ 0xc0 → ⊥) → (c ≡ 0xc1 → ⊥) → (c ≡ 0xd0 → ⊥) → (c ≡ 0xd1 → ⊥) → is_compound (layout_of c) ≡ false
+no_compound c h f g i j =
+    T_false (is_compound (layout_of c)) (either (eqb c 0xd1) _ (either (eqb c 0xd0) _ (either (eqb c 0xc1) _ (either (eqb c 0xc0) _ (compounds c h) (ne_eqb c 0xc0 f)) (ne_eqb c 0xc1 g)) (ne_eqb c 0xd0 i)) (ne_eqb c 0xd1 j))

@@ -9,30 +9,23 @@ use lib.Dec.{T, leb}
 use lib.ListN.{length}
 use Rattle.standard.specs.Answer.{Answer, got, refuse, Place, at, ◌>>◌, need, rows_short, text_short, limit_outside}
 use Rattle.standard.specs.Choose.{if}
-use Rattle.standard.specs.InCode.{refusal_is}
 use Rattle.standard.specs.Tree.{Tree, tall, text}
 use Rattle.standard.specs.Read.{front}
 use Rattle.standard.specs.Outcomes as outcome
 use Rattle.standard.specs.Outcomes.{level_most, in_force, over, extent, arrived, measure, read_into, read}
-use Rattle.standard.specs.declared.refusal.Refusal.{Refusal}
 use Rattle.laws.specs.Levels.{limit_most, front_more}
-use Rattle.reader.specs.InCode.{measured_is}
-use Rattle.reader.specs.Measuring.{too_little, with_room}
+use Rattle.reader.specs.Measuring.{refused, with_room}
 use Rattle.reader.specs.Filling.{Fillable, rows_in, text_in}
-use Rattle.reader.specs.declared.measuring.Extent.{Extent}
-use Rattle.reader.specs.declared.measuring.Measured.{Measured}
-use Rattle.reader.specs.declared.measuring.Measured.TheVariants.{Fits, Refused}
 
 -- what was measured has room
-room_there : (i j : ℕ) (m : Measured) (d : Extent) → with_room i j m ≡ Fits d → (m ≡ Fits d) × (d.rows ≤ i) × (d.text ≤ j)
+room_there : (i j : ℕ) (e d : outcome.Extent) → with_room i j e ≡ got d → (e ≡ d) × (d.rows ≤ i) × (d.text ≤ j)
 unfolding with_room
-room_there i j (Refused f) d e = let z : ◌≡◌ {A = ℕ} 0 1 = cc in absurd (omega arith)
-room_there i j (Fits c) d e = go (leb c.rows i) (leb c.text j) refl refl e
+room_there i j e d h = go (leb e.rows i) (leb e.text j) refl refl h
   where
-    go : (s t : Bool) → leb c.rows i ≡ s → leb c.text j ≡ t → if s (if t (Fits c) (too_little text_short)) (too_little rows_short) ≡ Fits d → (Fits c ≡ Fits d) × (d.rows ≤ i) × (d.text ≤ j)
-    go true true p q e = let z : c ≡ d = cc in (e, rw (← z) (leb-true c.rows i p), rw (← z) (leb-true c.text j q))
-    go true false p q e = let z : ◌≡◌ {A = ℕ} 0 1 = cc in absurd (omega arith)
-    go false t p q e = let z : ◌≡◌ {A = ℕ} 0 1 = cc in absurd (omega arith)
+    go : (s t : Bool) → leb e.rows i ≡ s → leb e.text j ≡ t → if s (if t (got e) (refused text_short 0)) (refused rows_short 0) ≡ got d → (e ≡ d) × (d.rows ≤ i) × (d.text ≤ j)
+    go true true p q h = let z : e ≡ d = cc in (z, rw (← z) (leb-true e.rows i p), rw (← z) (leb-true e.text j q))
+    go true false p q h = let z : ◌≡◌ {A = ℕ} 0 1 = cc in absurd (omega arith)
+    go false t p q h = let z : ◌≡◌ {A = ℕ} 0 1 = cc in absurd (omega arith)
 
 arrived_front : (l : ℕ) (b z : List ℕ) (v : Tree) → arrived l b ≡ got (v, z) → T (in_force l) × (front l b ≡ got (v, z))
 unfolding arrived
@@ -109,23 +102,25 @@ module _ (l : ℕ) (b w x : List ℕ) where
           rw (found.is_arrived, found.is_front, le-leb (tall found.tree) (length w / 2) (rw height h), le-leb (length (text found.tree)) (length x) (rw letters i), found.is_extent)
 
   -- what was measured, and the answer once the room is known
-  module _ (m : Measured) (e : measured_is m ≡ measure l b) where
-    module _ (d : Extent) (g : with_room (length w / 2) (length x) m ≡ Fits d) where
-      is_extent_lem : measure l b ≡ measured_is (Fits d)
-      is_extent_lem = sym e ∙ ap measured_is (room_there (length w / 2) (length x) m d g).0
+  module _ (e : outcome.Extent) (m : got e ≡ measure l b) where
+    module _ (d : outcome.Extent) (g : got d ≡ with_room (length w / 2) (length x) e) where
+      is_measured : measure l b ≡ got d
+      is_measured = sym m ∙ ap got (room_there (length w / 2) (length x) e d (sym g)).0
 
       pub fillable : Fillable b w x d.rows
-      fillable = let r = room_there (length w / 2) (length x) m d g in enough is_extent_lem r.1 r.2
+      fillable = let r = room_there (length w / 2) (length x) e d (sym g) in enough is_measured r.1 r.2
 
-      pub read_filled : read l b w x ≡ record { answer = measured_is (Fits d); words = over (rows_in (front level_most b)) w; letters = over (text_in (front level_most b)) x }
-      read_filled = let r = room_there (length w / 2) (length x) m d g in filled is_extent_lem r.1 r.2
+      pub read_filled : read l b w x ≡ record { answer = got d; words = over (rows_in (front level_most b)) w; letters = over (text_in (front level_most b)) x }
+      read_filled = let r = room_there (length w / 2) (length x) e d (sym g) in filled is_measured r.1 r.2
 
-  pub read_refused : (m : Measured) → measured_is m ≡ measure l b → (f : Refusal) → with_room (length w / 2) (length x) m ≡ Refused f → read l b w x ≡ record { answer = refusal_is f; words = w; letters = x }
-  unfolding with_room
-  read_refused (Refused c) e f g = let z : c ≡ f = cc in rw (← z) (read_no c.number (at c.place) (sym e))
-  read_refused (Fits c) e f g = go (leb c.rows (length w / 2)) (leb c.text (length x)) refl refl g
-    where
-      go : (s t : Bool) → leb c.rows (length w / 2) ≡ s → leb c.text (length x) ≡ t → if s (if t (Fits c) (too_little text_short)) (too_little rows_short) ≡ Refused f → read l b w x ≡ record { answer = refusal_is f; words = w; letters = x }
-      go true true p q g = let z : ◌≡◌ {A = ℕ} 0 1 = cc in absurd (omega arith)
-      go true false p q g = let z : record { number = text_short; place = 0 } ≡ f = cc in rw (← z) (little_text (sym e) (leb-true c.rows (length w / 2) p) (leb-false c.text (length x) q))
-      go false t p q g = let z : record { number = rows_short; place = 0 } ≡ f = cc in rw (← z) (few_rows (sym e) (leb-false c.rows (length w / 2) p))
+    pub read_small : (a : ℕ) (p : Place) → refuse a p ≡ with_room (length w / 2) (length x) e → read l b w x ≡ record { answer = refuse a p; words = w; letters = x }
+    unfolding with_room
+    read_small a p g = go (leb e.rows (length w / 2)) (leb e.text (length x)) refl refl g
+      where
+        go : (s t : Bool) → leb e.rows (length w / 2) ≡ s → leb e.text (length x) ≡ t → refuse a p ≡ if s (if t (got e) (refused text_short 0)) (refused rows_short 0) → read l b w x ≡ record { answer = refuse a p; words = w; letters = x }
+        go true true p q g = let z : ◌≡◌ {A = ℕ} 0 1 = cc in absurd (omega arith)
+        go true false p q g = rw g (little_text (sym m) (leb-true e.rows (length w / 2) p) (leb-false e.text (length x) q))
+        go false t p q g = rw g (few_rows (sym m) (leb-false e.rows (length w / 2) p))
+
+  pub read_refused : (a : ℕ) (p : Place) → refuse a p ≡ measure l b → read l b w x ≡ record { answer = refuse a p; words = w; letters = x }
+  read_refused a p e = read_no a p (sym e)

@@ -1,5 +1,6 @@
 -- Rooms: parts of slices, the fields before a body, and where a value's code stands.
 use Prim.Native.Nat.{ℕ, zero, suc, ◌+◌, ◌-◌, ◌≤◌, ◌<◌}
+use Rattle.std.specs.Prelude.{Option, Some, None}
 use mathlib.Core.Path.{◌≡◌, refl}
 use mathlib.Core.List.{List}
 use native.Mathlib.Omega.{arith}
@@ -11,9 +12,6 @@ use Rattle.standard.specs.Bytes.{unbe}
 use Rattle.standard.specs.Read.{cut, fields}
 use Rattle.laws.specs.Stores.{drop_take}
 use Rattle.reader.specs.Measuring.{code_at}
-use Rattle.reader.specs.declared.measuring.Head.{Head}
-use Rattle.reader.specs.declared.measuring.Head.TheVariants.{Own, Under}
-use Rattle.reader.specs.declared.measuring.Start.TheVariants.{Behind, Bad}
 
 -- what is left of a slice from a on
 pub rest : (a : ℕ) (s : List ℕ) → take (length s - a) (drop a s) ≡ drop a s
@@ -58,22 +56,22 @@ module _ (p w n : ℕ) (r : List ℕ) (h : w ≤ length r) (e : n ≡ unbe (take
 
 -- The code of a value, or why there is none
 
-pub code_deep : (h : Head) (l a : ℕ) (r : List ℕ) → l ≡ 0 → code_at h l a r ≡ Bad too_deep
+pub code_deep : (h : Option ℕ) (l a p : ℕ) (r : List ℕ) → l ≡ 0 → code_at h l a p r ≡ refuse too_deep (at p)
 unfolding code_at
-code_deep Own l a r e = rw e
-code_deep (Under c) l a r e = rw e
+code_deep None l a p r e = rw e
+code_deep (Some c) l a p r e = rw e
 
-pub code_none : (l a : ℕ) (s : List ℕ) → (l ≡ 0 → ⊥) → a ≡ length s → code_at Own l a (drop a s) ≡ Bad input_short
+pub code_none : (l a p : ℕ) (s : List ℕ) → (l ≡ 0 → ⊥) → a ≡ length s → code_at None l a p (drop a s) ≡ refuse input_short (at p)
 unfolding code_at
-code_none zero a s h e = absurd (h refl)
-code_none (suc l) a s h e = rw (e, drop-length s)
+code_none zero a p s h e = absurd (h refl)
+code_none (suc l) a p s h e = rw (e, drop-length s)
 
-pub code_own : (l a : ℕ) (s : List ℕ) → (l ≡ 0 → ⊥) → a < length s → code_at Own l a (drop a s) ≡ Behind (get_or s a 0) (a + 1)
+pub code_own : (l a p : ℕ) (s : List ℕ) → (l ≡ 0 → ⊥) → a < length s → code_at None l a p (drop a s) ≡ got (record { code = get_or s a 0; from = a + 1 })
 unfolding code_at
-code_own zero a s h i = absurd (h refl)
-code_own (suc l) a s h i = rw (drop-cons s a 0 i)
+code_own zero a p s h i = absurd (h refl)
+code_own (suc l) a p s h i = rw (drop-cons s a 0 i)
 
-pub code_under : (l a c : ℕ) (r : List ℕ) → (l ≡ 0 → ⊥) → code_at (Under c) l a r ≡ Behind c a
+pub code_given : (l a c p : ℕ) (r : List ℕ) → (l ≡ 0 → ⊥) → code_at (Some c) l a p r ≡ got (record { code = c; from = a })
 unfolding code_at
-code_under zero a c r h = absurd (h refl)
-code_under (suc l) a c r h = refl
+code_given zero a c p r h = absurd (h refl)
+code_given (suc l) a c p r h = refl

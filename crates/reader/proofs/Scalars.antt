@@ -21,8 +21,7 @@ use Rattle.standard.specs.Read.{plain, ahead, leaf}
 use Rattle.standard.specs.Facts.{T_true, clean_nil}
 use Rattle.laws.specs.Texts.{all_good, some_bad}
 use Rattle.reader.specs.Entries.{judged, spelt}
-use Rattle.reader.specs.Measuring.{fits, refused, measured, block}
-use Rattle.reader.specs.declared.measuring.Counted.TheVariants.{Faulty}
+use Rattle.reader.specs.Measuring.{fits, refused, faulty, measured, block}
 use Rattle.reader.proofs.Rooms.{cut_short, cut_got, back}
 
 -- numbers and texts that need no look
@@ -57,7 +56,7 @@ pub leaf_unfair : (s : Scalar) (k n p : ℕ) (t z r : List ℕ) → plain s p r 
 unfolding leaf measured
 leaf_unfair s k n p t z r e f = rw (e, f)
 
-pub leaf_unclean : (s : Scalar) (k n p : ℕ) (t z r : List ℕ) → plain s p r ≡ got (n, t, z) → fair k n ≡ true → clean k t ≡ false → measured (length r) (leaf s k p r) ≡ Faulty (p + 1 + ahead s + good_length k t)
+pub leaf_unclean : (s : Scalar) (k n p : ℕ) (t z r : List ℕ) → plain s p r ≡ got (n, t, z) → fair k n ≡ true → clean k t ≡ false → measured (length r) (leaf s k p r) ≡ faulty (p + 1 + ahead s + good_length k t)
 unfolding leaf measured
 leaf_unclean s k n p t z r e f g = rw (e, f, g)
 
@@ -120,7 +119,7 @@ module _ (w k p n : ℕ) (r : List ℕ) (h : w ≤ length r) (e : n ≡ unbe (ta
     long : length (take n (drop w r)) ≡ n
     long = length-take-le n (drop w r) (rw length-drop i)
 
-    pub sized_bad : g < n → measured (length r) (leaf (sized w) k p r) ≡ Faulty (p + 1 + w + g)
+    pub sized_bad : g < n → measured (length r) (leaf (sized w) k p r) ≡ faulty (p + 1 + w + g)
     unfolding ahead
     sized_bad o = leaf_unclean (sized w) k n p (take n (drop w r)) (drop n (drop w r)) r (sized_got i) (unjudged k n t) (some_bad k (take n (drop w r)) (omega (arith, long, f, o))) ∙ rw f
 

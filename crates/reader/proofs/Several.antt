@@ -1,5 +1,6 @@
 -- Values one after another: what a turn of the loop adds, and that all sums are small.
 use Prim.Native.Nat.{ℕ, zero, suc, ◌+◌, ◌-◌, ◌^◌, ◌≤◌, ◌<◌}
+use Rattle.std.specs.Prelude.{Option, Some, None}
 use mathlib.Core.Path.{◌≡◌, refl, sym, ap, ◌∙◌}
 use mathlib.Core.List.{List, [], ◌∷◌, ◌++◌}
 use mathlib.Core.Bool.{Bool, true, false}
@@ -8,7 +9,7 @@ use native.Mathlib.Nat.{add-zero, add_assoc}
 use lib.Dec.{T, eqb}
 use lib.ListN.{length, drop, length-append, length-drop}
 use lib.Seq.{drop_at, drop-drop}
-use Rattle.standard.specs.Answer.{Answer, got, refuse, Place, at, byte, ◌>>=◌, too_deep, input_short}
+use Rattle.standard.specs.Answer.{Answer, got, refuse, Place, at, byte, ◌>>=◌, too_deep, input_short, payload_bad}
 use Rattle.standard.specs.Tree.{Tree, Trees, none, more, tall, tall*, text, text*}
 use Rattle.standard.specs.Choose.{if, lookup}
 use Rattle.standard.specs.Bytes.{spell}
@@ -20,15 +21,11 @@ use Rattle.standard.specs.Read.{cut, plain, leaf, many, coded, payload}
 use Rattle.laws.specs.Answers.{Holds, yes', no', on, weaken, out}
 use Rattle.laws.specs.Bounds.{small, element_some}
 use Rattle.laws.specs.Sound.{payload_sound}
-use Rattle.reader.specs.Measuring.{fits, refused, missed, untold_is, measured, several, tally_is, reads, reach, code_at, Taking, Roomy, Plain}
-use Rattle.reader.specs.declared.measuring.Extent.{Extent}
-use Rattle.standard.specs.declared.refusal.Refusal.{Refusal}
-use Rattle.reader.specs.declared.measuring.Counted.{Counted}
-use Rattle.reader.specs.declared.measuring.Counted.TheVariants.{Fits, Refused, Faulty}
+use Rattle.standard.specs.Outcomes.{Extent}
+use Rattle.reader.specs.Measuring.{fits, refused, faulty, untold_is, measured, several, tally_is, reads, reach, code_at, Taking, Roomy, Plain}
 use Rattle.reader.specs.declared.measuring.Tally.{Tally}
-use Rattle.reader.specs.declared.measuring.Head.{Head}
-use Rattle.reader.specs.declared.measuring.Head.TheVariants.{Own, Under}
-use Rattle.reader.specs.declared.measuring.Start.TheVariants.{Behind, Bad}
+use Rattle.reader.specs.declared.measuring.Start.{Start}
+use Rattle.standard.specs.InCode.{reason_is}
 use Rattle.reader.proofs.Rooms.{back}
 
 -- A value read at the front of a room: what is left is the end of the room, and rows and text are no more than its bytes and a code
@@ -59,19 +56,19 @@ cons_cut c r v z h =
     let e : suc (length r) - length z ≡ suc (length r - length z) = omega (arith, h.room) in
     record { left = rw e h.left; room = omega (arith, h.room); rows = omega (arith, h.room, h.rows); letters = omega (arith, h.room, h.letters) }
 
-reads_cut : (h : Head) (l p : ℕ) (r : List ℕ) → Holds (λ x. Cut r x.0 x.1) (reads h l p r)
+reads_cut : (h : Option ℕ) (l p : ℕ) (r : List ℕ) → Holds (λ x. Cut r x.0 x.1) (reads h l p r)
 unfolding reads coded
-reads_cut (Under e) l p r = payload_cut l e p r
-reads_cut Own zero p r = no'
-reads_cut Own (suc l) p [] = no'
-reads_cut Own (suc l) p (c ∷ r) = weaken (payload_cut (suc l) c p r) (λ x i. cons_cut c r x.0 x.1 i)
+reads_cut (Some e) l p r = payload_cut l e p r
+reads_cut None zero p r = no'
+reads_cut None (suc l) p [] = no'
+reads_cut None (suc l) p (c ∷ r) = weaken (payload_cut (suc l) c p r) (λ x i. cons_cut c r x.0 x.1 i)
 
-reads_some : (h : Head) → Taking h → (l p : ℕ) (r : List ℕ) → Holds (λ x. length x.1 < length r) (reads h l p r)
+reads_some : (h : Option ℕ) → Taking h → (l p : ℕ) (r : List ℕ) → Holds (λ x. length x.1 < length r) (reads h l p r)
 unfolding reads coded
-reads_some (Under e) t l p r = weaken (payload_some l e p r) (λ x i. i t)
-reads_some Own t zero p r = no'
-reads_some Own t (suc l) p [] = no'
-reads_some Own t (suc l) p (c ∷ r) = weaken (payload_cut (suc l) c p r) (λ x i. omega (arith, i.room))
+reads_some (Some e) t l p r = weaken (payload_some l e p r) (λ x i. i t)
+reads_some None t zero p r = no'
+reads_some None t (suc l) p [] = no'
+reads_some None t (suc l) p (c ∷ r) = weaken (payload_cut (suc l) c p r) (λ x i. omega (arith, i.room))
 
 -- A count is not believed: of so many values no more are asked for than there are bytes, and one that is not there
 
@@ -94,11 +91,11 @@ few f g (suc n) p r = by (f p r) (g p r) (λ s. few f g n (p + (length r - lengt
     by (got (v, s)) (yes' i) h = omega (arith, h s)
     by (refuse x q) i h = omega arith
 
-pub few_turns : (h : Head) → Taking h → (l n p : ℕ) (r : List ℕ) → turns (reads h l) n p r ≤ suc (length r)
+pub few_turns : (h : Option ℕ) → Taking h → (l n p : ℕ) (r : List ℕ) → turns (reads h l) n p r ≤ suc (length r)
 few_turns h t l = few (reads h l) (reads_some h t l)
 
 -- a count of four thousand million over two nulls: both are taken, and the third is refused
-three_turns : turns (reads Own 1) 4000000000 0 (0x40 ∷ 0x40 ∷ []) ≡ 3
+three_turns : turns (reads None 1) 4000000000 0 (0x40 ∷ 0x40 ∷ []) ≡ 3
 unfolding turns reads coded payload read.behind leaf plain cut codes entry_of is_code lookup spell fair flaw
 three_turns = refl
 
@@ -110,7 +107,7 @@ many_cut f g zero p r = yes' {a = (none, r)} (omega arith)
 many_cut f g (suc n) p r = on (g p r) (λ x h. on (many_cut f g n (p + (length r - length x.1)) x.1) (λ y i. yes' {a = (more x.0 y.0, y.1)} (omega (arith, h.room, h.rows))))
 
 -- several values fit their room, and leave room for a row above them
-pub run_cut : (h : Head) (l n p : ℕ) (r : List ℕ) → Holds (λ x. (length x.1 ≤ length r) × (tall* x.0 + length x.1 ≤ n + length r)) (many (reads h l) n p r)
+pub run_cut : (h : Option ℕ) (l n p : ℕ) (r : List ℕ) → Holds (λ x. (length x.1 ≤ length r) × (tall* x.0 + length x.1 ≤ n + length r)) (many (reads h l) n p r)
 run_cut h l n p r = many_cut (reads h l) (reads_cut h l) n p r
 
 roomy_several : (k b : ℕ) (m : Answer (Trees × List ℕ)) → b + 1 < 2 ^ 64 → Holds (λ x. tall* x.0 ≤ b) m → Roomy (several k 0 0 m)
@@ -119,7 +116,7 @@ roomy_several k b m i (yes' h) = omega arith
 roomy_several k b m i (no' {p = at q}) = tt
 roomy_several k b m i (no' {p = byte q}) = tt
 
-pub run_roomy : (h : Head) (l n p : ℕ) (r : List ℕ) (m : Counted) → m ≡ several (length r) 0 0 (many (reads h l) n p r) → n < 2 ^ 32 → length r < 2 ^ 63 → Roomy m
+pub run_roomy : (h : Option ℕ) (l n p : ℕ) (r : List ℕ) (m : Answer Extent) → m ≡ several (length r) 0 0 (many (reads h l) n p r) → n < 2 ^ 32 → length r < 2 ^ 63 → Roomy m
 run_roomy h l n p r m e i j = rw e (roomy_several (length r) (n + length r) (many (reads h l) n p r) (omega arith) (weaken (run_cut h l n p r) (λ x i. omega arith)))
 
 -- What a measure tells of an answer
@@ -132,7 +129,7 @@ pub record Read (n : ℕ) (m : Answer (Tree × List ℕ)) (e : Extent) : Type 0 
   pub rows : e.rows ≡ tall tree
   pub letters : e.text ≡ length (text tree)
 
-read_of : (n : ℕ) (m : Answer (Tree × List ℕ)) (e : Extent) → measured n m ≡ Fits e → Read n m e
+read_of : (n : ℕ) (m : Answer (Tree × List ℕ)) (e : Extent) → measured n m ≡ got e → Read n m e
 unfolding measured
 read_of n (got (v, z)) e h =
     let i : e ≡ record { length = n - length z; rows = tall v; text = length (text v) } = cc in
@@ -140,33 +137,22 @@ read_of n (got (v, z)) e h =
 read_of n (refuse x (at p)) e h = let z : ◌≡◌ {A = ℕ} 0 1 = cc in absurd (omega arith)
 read_of n (refuse x (byte p)) e h = let z : ◌≡◌ {A = ℕ} 0 1 = cc in absurd (omega arith)
 
-refused_of : (n : ℕ) (m : Answer (Tree × List ℕ)) (f : Refusal) → measured n m ≡ Refused f → m ≡ refuse f.number (at f.place)
+refused_of : (n : ℕ) (m : Answer (Tree × List ℕ)) (x : ℕ) (p : Place) → measured n m ≡ refuse x p → m ≡ refuse x p
 unfolding measured
-refused_of n (got (v, z)) f h = let z : ◌≡◌ {A = ℕ} 0 1 = cc in absurd (omega arith)
-refused_of n (refuse x (at p)) f h =
-    let i : f ≡ record { number = x; place = p } = cc in
-    rw i
-refused_of n (refuse x (byte p)) f h = let z : ◌≡◌ {A = ℕ} 0 1 = cc in absurd (omega arith)
-
-faulty_of : (n : ℕ) (m : Answer (Tree × List ℕ)) (p : ℕ) → measured n m ≡ Faulty p → (x : ℕ) × (m ≡ refuse x (byte p))
-unfolding measured
-faulty_of n (got (v, z)) p h = let z : ◌≡◌ {A = ℕ} 0 1 = cc in absurd (omega arith)
-faulty_of n (refuse x (at q)) p h = let z : ◌≡◌ {A = ℕ} 0 1 = cc in absurd (omega arith)
-faulty_of n (refuse x (byte q)) p h =
-    let i : q ≡ p = cc in
-    (x, rw i)
+refused_of n (got (v, z)) x p h = let z : ◌≡◌ {A = ℕ} 0 1 = cc in absurd (omega arith)
+refused_of n (refuse y q) x p h = let i : y ≡ x = cc in let j : q ≡ p = cc in rw (i, j)
 
 pub tally_fits : (t : Tally) → t.fits ≡ true → tally_is t ≡ fits t.first t.second t.third
 unfolding tally_is
 tally_fits t e = rw e
 
-pub tally_untold : (t : Tally) → t.fits ≡ false → tally_is t ≡ untold_is t.first t.second t.third
+pub tally_untold : (t : Tally) → t.fits ≡ false → tally_is t ≡ untold_is (reason_is t.reason) t.first t.third
 unfolding tally_is
 tally_untold t e = rw e
 
 -- The code of a value, and where what stands behind it begins
 
-pub record Opened (h : Head) (l a : ℕ) (r : List ℕ) (c b : ℕ) : Type 0 where
+pub record Opened (h : Option ℕ) (l a : ℕ) (r : List ℕ) (c b : ℕ) : Type 0 where
   pub skip : ℕ
   pub begins : b ≡ a + skip
   pub reaches : skip + reach h ≡ 1
@@ -174,46 +160,51 @@ pub record Opened (h : Head) (l a : ℕ) (r : List ℕ) (c b : ℕ) : Type 0 whe
   pub levels : 0 < l
   pub same : (p : ℕ) → reads h l p r ≡ payload l c p (drop skip r)
 
-pub opened : (h : Head) (l a : ℕ) (r : List ℕ) (c b : ℕ) → code_at h l a r ≡ Behind c b → Opened h l a r c b
+pub opened : (h : Option ℕ) (l a p : ℕ) (r : List ℕ) (o : Start) → code_at h l a p r ≡ got o → Opened h l a r o.code o.from
 unfolding code_at reads coded
-opened (Under e) zero a r c b h = let z : ◌≡◌ {A = ℕ} 0 1 = cc in absurd (omega arith)
-opened (Under e) (suc l) a r c b h =
-    let i : e ≡ c = cc in
-    let j : a ≡ b = cc in
-    record { skip = 0; begins = omega arith; reaches = omega arith; room = omega arith; levels = omega arith; same = λ p. rw i }
-opened Own zero a r c b h = let z : ◌≡◌ {A = ℕ} 0 1 = cc in absurd (omega arith)
-opened Own (suc l) a [] c b h = let z : ◌≡◌ {A = ℕ} 0 1 = cc in absurd (omega arith)
-opened Own (suc l) a (e ∷ r) c b h =
-    let i : e ≡ c = cc in
-    let j : a + 1 ≡ b = cc in
-    record { skip = 1; begins = omega arith; reaches = omega arith; room = omega arith; levels = omega arith; same = λ p. rw i }
+opened (Some e) zero a p r o h = let z : ◌≡◌ {A = ℕ} 0 1 = cc in absurd (omega arith)
+opened (Some e) (suc l) a p r o h =
+    let i : record { code = e; from = a } ≡ o = cc in
+    let j : a ≡ o.from = ap (λ (x : Start). x.from) i in
+    record { skip = 0; begins = omega arith; reaches = omega arith; room = omega arith; levels = omega arith; same = λ p. rw (← i) }
+opened None zero a p r o h = let z : ◌≡◌ {A = ℕ} 0 1 = cc in absurd (omega arith)
+opened None (suc l) a p [] o h = let z : ◌≡◌ {A = ℕ} 0 1 = cc in absurd (omega arith)
+opened None (suc l) a p (e ∷ r) o h =
+    let i : record { code = e; from = a + 1 } ≡ o = cc in
+    let j : a + 1 ≡ o.from = ap (λ (x : Start). x.from) i in
+    record { skip = 1; begins = omega arith; reaches = omega arith; room = omega arith; levels = omega arith; same = λ p. rw (← i) }
 
 -- behind its own code a value begins a byte further; behind a given one its payload has a byte
-by_head : (h : Head) (l a : ℕ) (r : List ℕ) (c b : ℕ) → code_at h l a r ≡ Behind c b → Taking h → (n : ℕ) → (T (element (layout_of c)) → 0 < n) → a < b + n
+by_head : (h : Option ℕ) (l a p : ℕ) (r : List ℕ) (o : Start) → code_at h l a p r ≡ got o → Taking h → (n : ℕ) → (T (element (layout_of o.code)) → 0 < n) → a < o.from + n
 unfolding code_at
-by_head Own zero a r c b e t n f = let z : ◌≡◌ {A = ℕ} 0 1 = cc in absurd (omega arith)
-by_head Own (suc l) a [] c b e t n f = let z : ◌≡◌ {A = ℕ} 0 1 = cc in absurd (omega arith)
-by_head Own (suc l) a (d ∷ r) c b e t n f = let j : a + 1 ≡ b = cc in omega arith
-by_head (Under d) zero a r c b e t n f = let z : ◌≡◌ {A = ℕ} 0 1 = cc in absurd (omega arith)
-by_head (Under d) (suc l) a r c b e t n f =
-    let i : d ≡ c = cc in
-    let j : a ≡ b = cc in
-    omega (arith, f (rw i at t))
+by_head None zero a p r o e t n f = let z : ◌≡◌ {A = ℕ} 0 1 = cc in absurd (omega arith)
+by_head None (suc l) a p [] o e t n f = let z : ◌≡◌ {A = ℕ} 0 1 = cc in absurd (omega arith)
+by_head None (suc l) a p (d ∷ r) o e t n f =
+    let i : record { code = d; from = a + 1 } ≡ o = cc in
+    let j : a + 1 ≡ o.from = ap (λ (x : Start). x.from) i in
+    omega arith
+by_head (Some d) zero a p r o e t n f = let z : ◌≡◌ {A = ℕ} 0 1 = cc in absurd (omega arith)
+by_head (Some d) (suc l) a p r o e t n f =
+    let i : record { code = d; from = a } ≡ o = cc in
+    let j : a ≡ o.from = ap (λ (x : Start). x.from) i in
+    let k : d ≡ o.code = ap (λ (x : Start). x.code) i in
+    omega (arith, f (rw k at t))
 
-opened_same : (h : Head) (l a c b p : ℕ) (s : List ℕ) → Opened h l a (drop a s) c b → reads h l p (drop a s) ≡ payload l c p (drop b s)
+opened_same : (h : Option ℕ) (l a c b p : ℕ) (s : List ℕ) → Opened h l a (drop a s) c b → reads h l p (drop a s) ≡ payload l c p (drop b s)
 opened_same h l a c b p s o = o.same p ∙ ap (λ (t : List ℕ). payload l c p t) (drop-drop o.skip a s ∙ ap (λ (n : ℕ). drop n s) (sym o.begins))
 
 -- it begins in the room, and counts from the value's place as its head says
-pub opened_room : (h : Head) (l a c b : ℕ) (s : List ℕ) → a ≤ length s → code_at h l a (drop a s) ≡ Behind c b → (b ≤ length s) × (b + reach h ≡ a + 1) × (0 < l)
-opened_room h l a c b s i e = let o = opened h l a (drop a s) c b e in omega (arith, o.begins, o.room, o.reaches, o.levels, length-drop a s)
+pub opened_room : (h : Option ℕ) (l a p : ℕ) (o : Start) (s : List ℕ) → a ≤ length s → code_at h l a p (drop a s) ≡ got o → (o.from ≤ length s) × (o.from + reach h ≡ a + 1) × (0 < l)
+opened_room h l a p o s i e = let q = opened h l a p (drop a s) o e in omega (arith, q.begins, q.room, q.reaches, q.levels, length-drop a s)
 
-barred : (h : Head) (l a p x : ℕ) (r : List ℕ) → code_at h l a r ≡ Bad x → reads h l p r ≡ refuse x (at p)
+-- what is refused of a code is refused of the value
+barred : (h : Option ℕ) (l a p x : ℕ) (q : Place) (r : List ℕ) → code_at h l a p r ≡ refuse x q → reads h l p r ≡ refuse x q
 unfolding code_at reads coded payload
-barred (Under e) zero a p x r h = let i : too_deep ≡ x = cc in rw i
-barred (Under e) (suc l) a p x r h = let z : ◌≡◌ {A = ℕ} 0 1 = cc in absurd (omega arith)
-barred Own zero a p x r h = let i : too_deep ≡ x = cc in rw i
-barred Own (suc l) a p x [] h = let i : input_short ≡ x = cc in rw i
-barred Own (suc l) a p x (e ∷ r) h = let z : ◌≡◌ {A = ℕ} 0 1 = cc in absurd (omega arith)
+barred (Some e) zero a p x q r h = let i : too_deep ≡ x = cc in let j : at p ≡ q = cc in rw (← i, ← j)
+barred (Some e) (suc l) a p x q r h = let z : ◌≡◌ {A = ℕ} 0 1 = cc in absurd (omega arith)
+barred None zero a p x q r h = let i : too_deep ≡ x = cc in let j : at p ≡ q = cc in rw (← i, ← j)
+barred None (suc l) a p x q [] h = let i : input_short ≡ x = cc in let j : at p ≡ q = cc in rw (← i, ← j)
+barred None (suc l) a p x q (e ∷ r) h = let z : ◌≡◌ {A = ℕ} 0 1 = cc in absurd (omega arith)
 
 -- One value and those behind it
 
@@ -230,23 +221,23 @@ many_got f k i j (suc n) q r v z h e =
     let d : suc n - 1 ≡ n = omega arith in
     rw (e, d) (several_more k i j v (many f n (q + (length r - length z)) z))
 
-many_no : (f : ℕ → List ℕ → Answer (Tree × List ℕ)) (k i j n q x : ℕ) (p : Place) (r : List ℕ) → 0 < n → f q r ≡ refuse x p → several k i j (many f n q r) ≡ missed x p
+many_no : (f : ℕ → List ℕ → Answer (Tree × List ℕ)) (k i j n q x : ℕ) (p : Place) (r : List ℕ) → 0 < n → f q r ≡ refuse x p → several k i j (many f n q r) ≡ refuse x p
 unfolding many several
 many_no f k i j zero q x p r h e = absurd (omega arith)
 many_no f k i j (suc n) q x p r h e = rw e
 
 -- The loop stands at a, behind i rows and j bytes of text, with so many values left: what is left from here comes to what was due at the start
-pub record Going (s : List ℕ) (h : Head) (l count p a i j left : ℕ) : Type 0 where
+pub record Going (s : List ℕ) (h : Option ℕ) (l count p a i j left : ℕ) : Type 0 where
   pub taking : Taking h
   pub inside : a ≤ length s
   pub height : i + left ≤ a + count
   pub letters : j + left ≤ a + count
   pub sum : several (length s) i j (many (reads h l) left (p + a) (drop a s)) ≡ several (length s) 0 0 (many (reads h l) count p s)
 
-pub begin : (s : List ℕ) (h : Head) (l count p : ℕ) → Taking h → Going s h l count p 0 0 0 count
+pub begin : (s : List ℕ) (h : Option ℕ) (l count p : ℕ) → Taking h → Going s h l count p 0 0 0 count
 begin s h l count p t = record { taking = t; inside = omega arith; height = omega arith; letters = omega arith; sum = rw (add-zero p) }
 
-module _ (s : List ℕ) (h : Head) (l count p a i j left : ℕ) (g : Going s h l count p a i j left) where
+module _ (s : List ℕ) (h : Option ℕ) (l count p a i j left : ℕ) (g : Going s h l count p a i j left) where
   pub end : left ≤ 0 → fits a i j ≡ several (length s) 0 0 (many (reads h l) count p s)
   unfolding several many tall text
   end e =
@@ -255,57 +246,55 @@ module _ (s : List ℕ) (h : Head) (l count p a i j left : ℕ) (g : Going s h l
       let x : several (length s) i j (many (reads h l) 0 (p + a) (drop a s)) ≡ fits a i j = rw (b, add-zero i, add-zero j) in
       sym x ∙ rw z at g.sum
 
-  pub stops : (x : ℕ) → 0 < left → code_at h l a (drop a s) ≡ Bad x → refused x (p + a) ≡ several (length s) 0 0 (many (reads h l) count p s)
-  stops x n e = sym (many_no (reads h l) (length s) i j left (p + a) x (at (p + a)) (drop a s) n (barred h l a (p + a) x (drop a s) e)) ∙ g.sum
+  fails : (x : ℕ) (q : Place) → 0 < left → reads h l (p + a) (drop a s) ≡ refuse x q → refuse x q ≡ several (length s) 0 0 (many (reads h l) count p s)
+  fails x q n e = sym (many_no (reads h l) (length s) i j left (p + a) x q (drop a s) n e) ∙ g.sum
 
-  module _ (n : 0 < left) (c b : ℕ) (e : code_at h l a (drop a s) ≡ Behind c b) (m : Counted) (d : m ≡ measured (length (drop b s)) (payload l c (p + a) (drop b s))) where
-    begun : b ≤ length s
-    begun = (opened_room h l a c b s g.inside e).0
+  -- the turn ends all with what does not fit
+  pub stops : (x : ℕ) (q : Place) → 0 < left → code_at h l a (p + a) (drop a s) ≡ refuse x q → refuse x q ≡ several (length s) 0 0 (many (reads h l) count p s)
+  stops x q n e = fails x q n (barred h l a (p + a) x q (drop a s) e)
 
-    same : reads h l (p + a) (drop a s) ≡ payload l c (p + a) (drop b s)
-    same = opened_same h l a c b (p + a) s (opened h l a (drop a s) c b e)
+  module _ (n : 0 < left) (o : Start) (e : code_at h l a (p + a) (drop a s) ≡ got o) (m : Answer Extent) (d : m ≡ measured (length (drop o.from s)) (payload l o.code (p + a) (drop o.from s))) where
+    begun : o.from ≤ length s
+    begun = (opened_room h l a (p + a) o s g.inside e).0
 
-    fails : (f : Refusal) → m ≡ Refused f → Refused f ≡ several (length s) 0 0 (many (reads h l) count p s)
-    fails f k = sym (many_no (reads h l) (length s) i j left (p + a) f.number (at f.place) (drop a s) n (same ∙ refused_of (length (drop b s)) (payload l c (p + a) (drop b s)) f (sym d ∙ k))) ∙ g.sum
+    same : reads h l (p + a) (drop a s) ≡ payload l o.code (p + a) (drop o.from s)
+    same = opened_same h l a o.code o.from (p + a) s (opened h l a (p + a) (drop a s) o e)
 
-    shows : (q : ℕ) → m ≡ Faulty q → Faulty q ≡ several (length s) 0 0 (many (reads h l) count p s)
-    shows q k =
-        let o = faulty_of (length (drop b s)) (payload l c (p + a) (drop b s)) q (sym d ∙ k) in
-        sym (many_no (reads h l) (length s) i j left (p + a) o.0 (byte q) (drop a s) n (same ∙ o.1)) ∙ g.sum
+    pub ends : (x : ℕ) (q : Place) → m ≡ refuse x q → refuse x q ≡ several (length s) 0 0 (many (reads h l) count p s)
+    ends x q k = fails x q n (same ∙ refused_of (length (drop o.from s)) (payload l o.code (p + a) (drop o.from s)) x q (sym d ∙ k))
 
-    -- the turn ends all with what does not fit
-    pub ends : (x q k : ℕ) → m ≡ untold_is x q k → untold_is x q k ≡ several (length s) 0 0 (many (reads h l) count p s)
-    ends x q k = by (eqb k 1)
+    pub ends_told : (x q k : ℕ) → m ≡ untold_is x q k → untold_is x q k ≡ several (length s) 0 0 (many (reads h l) count p s)
+    ends_told x q k = by (eqb k 1)
       where
-        by : (t : Bool) → m ≡ if t (Faulty q) (refused x q) → if t (Faulty q) (refused x q) ≡ several (length s) 0 0 (many (reads h l) count p s)
-        by true e = shows q e
-        by false e = fails (record { number = x; place = q }) e
+        by : (t : Bool) → m ≡ if t (faulty q) (refused x q) → if t (faulty q) (refused x q) ≡ several (length s) 0 0 (many (reads h l) count p s)
+        by true e = ends payload_bad (byte q) e
+        by false e = ends x (at q) e
 
     -- the turn goes on behind the value, and takes at least a byte
-    pub again : (x : Extent) → m ≡ Fits x → Going s h l count p (b + x.length) (i + x.rows) (j + x.text) (left - 1) × (a < b + x.length)
-    again x k = go (read_of (length (drop b s)) (payload l c (p + a) (drop b s)) x (sym d ∙ k)) (opened h l a (drop a s) c b e)
+    pub again : (x : Extent) → m ≡ got x → Going s h l count p (o.from + x.length) (i + x.rows) (j + x.text) (left - 1) × (a < o.from + x.length)
+    again x k = go (read_of (length (drop o.from s)) (payload l o.code (p + a) (drop o.from s)) x (sym d ∙ k)) (opened h l a (p + a) (drop a s) o e)
       where
-        go : Read (length (drop b s)) (payload l c (p + a) (drop b s)) x → Opened h l a (drop a s) c b → Going s h l count p (b + x.length) (i + x.rows) (j + x.text) (left - 1) × (a < b + x.length)
-        go q o =
-            let u = out (rw q.is_read at (payload_cut l c (p + a) (drop b s))) in
-            let v = length-drop b s in
-            let w : (p + a) + (length (drop a s) - length q.rest) ≡ p + (b + x.length) = omega (arith, u.room, q.bytes, begun, length-drop a s, g.inside) in
-            let y : q.rest ≡ drop (b + x.length) s = u.left ∙ rw (← q.bytes, drop-drop x.length b s) in
-            let some = out (rw q.is_read at (payload_some l c (p + a) (drop b s))) in (
+        go : Read (length (drop o.from s)) (payload l o.code (p + a) (drop o.from s)) x → Opened h l a (drop a s) o.code o.from → Going s h l count p (o.from + x.length) (i + x.rows) (j + x.text) (left - 1) × (a < o.from + x.length)
+        go q f =
+            let u = out (rw q.is_read at (payload_cut l o.code (p + a) (drop o.from s))) in
+            let v = length-drop o.from s in
+            let w : (p + a) + (length (drop a s) - length q.rest) ≡ p + (o.from + x.length) = omega (arith, u.room, q.bytes, begun, length-drop a s, g.inside) in
+            let y : q.rest ≡ drop (o.from + x.length) s = u.left ∙ rw (← q.bytes, drop-drop x.length o.from s) in
+            let some = out (rw q.is_read at (payload_some l o.code (p + a) (drop o.from s))) in (
               record {
                 taking = g.taking;
                 inside = omega (arith, u.room, q.bytes, begun);
-                height = omega (arith, u.rows, q.bytes, q.rows, o.begins, g.height);
-                letters = omega (arith, u.letters, q.bytes, q.letters, o.begins, g.letters);
+                height = omega (arith, u.rows, q.bytes, q.rows, f.begins, g.height);
+                letters = omega (arith, u.letters, q.bytes, q.letters, f.begins, g.letters);
                 sum = rw (q.rows, q.letters, ← w, ← y) (sym (many_got (reads h l) (length s) i j left (p + a) (drop a s) q.tree q.rest n (same ∙ q.is_read)) ∙ g.sum);
               },
-              by_head h l a (drop a s) c b e g.taking x.length (λ t. omega (arith, some t, q.bytes)),
+              by_head h l a (p + a) (drop a s) o e g.taking x.length (λ t. omega (arith, some t, q.bytes)),
             )
 
   -- a scalar that needs no look
-  pub plainly : 0 < left → (c b : ℕ) → code_at h l a (drop a s) ≡ Behind c b → (w : ℕ) → Plain c w → w ≤ length s - b → Going s h l count p (b + w) (i + 1) j (left - 1) × (a < b + w)
-  plainly n c b e w f k =
-      let o = opened_room h l a c b s g.inside e in
-      let q : fits w 1 0 ≡ measured (length (drop b s)) (payload l c (p + a) (drop b s)) = sym (f l (p + a) (drop b s) o.2 (rw length-drop k)) in
+  pub plainly : 0 < left → (o : Start) → code_at h l a (p + a) (drop a s) ≡ got o → (w : ℕ) → Plain o.code w → w ≤ length s - o.from → Going s h l count p (o.from + w) (i + 1) j (left - 1) × (a < o.from + w)
+  plainly n o e w f k =
+      let r = opened_room h l a (p + a) o s g.inside e in
+      let q : fits w 1 0 ≡ measured (length (drop o.from s)) (payload l o.code (p + a) (drop o.from s)) = sym (f l (p + a) (drop o.from s) r.2 (rw length-drop k)) in
       let y : j + 0 ≡ j = omega arith in
-      rw y at (again n c b e (fits w 1 0) q (record { length = w; rows = 1; text = 0 }) refl)
+      rw y at (again n o e (fits w 1 0) q (record { length = w; rows = 1; text = 0 }) refl)

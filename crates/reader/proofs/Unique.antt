@@ -1,6 +1,7 @@
 -- No second outcome satisfies the promise of `measure`, of `read` or of the forms that name their limit: not in the answer, the place, the length, the rows or the bytes of text, and not in a word
 -- or a byte of the lent memory. Of the walker Walks.antt says the same.
 use Prim.Native.Nat.{ℕ}
+use Rattle.std.specs.Prelude.{Result, Ok, Err}
 use mathlib.Core.Path.{◌≡◌, refl, sym, ap, ◌∙◌}
 use mathlib.Core.List.{List}
 use seplogic.Ra.Ura.{Ura}
@@ -15,10 +16,9 @@ use denote.MutBor.{MutBor}
 use Rattle.standard.specs.Outcomes as outcome
 use Rattle.standard.specs.Outcomes.{level_default}
 use Rattle.standard.specs.Facts.{same_refusal}
-use Rattle.reader.specs.InCode.{measured_is}
+use Rattle.reader.specs.InCode.{extent_is, measured_is}
 use Rattle.reader.specs.declared.measuring.Extent.{Extent}
-use Rattle.reader.specs.declared.measuring.Measured.{Measured}
-use Rattle.reader.specs.declared.measuring.Measured.TheVariants.{Fits, Refused}
+use Rattle.standard.specs.declared.refusal.Refusal.{Refusal}
 use Rattle.reader.specs.contracts.measuring.measure_within as measure_within
 use Rattle.reader.specs.contracts.measuring.measure as measure
 use Rattle.reader.specs.contracts.reading.read_within as read_within
@@ -28,23 +28,23 @@ same_extent : (e d : Extent) → e.length ≡ d.length → e.rows ≡ d.rows →
 same_extent e d n i t j = record { length = n j; rows = i j; text = t j }
 
 -- an answer of the code is told by what it says
-one_answer : (r s : Measured) → measured_is r ≡ measured_is s → r ≡ s
-one_answer (Fits e) (Fits d) h =
-    let q : ◌≡◌ {A = outcome.Extent} (record { length = e.length; rows = e.rows; text = e.text }) (record { length = d.length; rows = d.rows; text = d.text }) = cc in
-    ap Fits (same_extent e d (ap (λ (z : outcome.Extent). z.length) q) (ap (λ (z : outcome.Extent). z.rows) q) (ap (λ (z : outcome.Extent). z.text) q))
-one_answer (Fits e) (Refused g) h = cc
-one_answer (Refused f) (Fits d) h = cc
-one_answer (Refused f) (Refused g) h = ap Refused (same_refusal f g (cc) (cc))
+one_answer : (r s : Result Extent Refusal) → measured_is r ≡ measured_is s → r ≡ s
+one_answer (Ok e) (Ok d) h =
+    let q : ◌≡◌ {A = outcome.Extent} (extent_is e) (extent_is d) = cc in
+    ap Ok (same_extent e d (ap (λ (z : outcome.Extent). z.length) q) (ap (λ (z : outcome.Extent). z.rows) q) (ap (λ (z : outcome.Extent). z.text) q))
+one_answer (Ok e) (Err g) h = let z : ◌≡◌ {A = ℕ} 0 1 = cc in absurd (omega arith)
+one_answer (Err f) (Ok d) h = let z : ◌≡◌ {A = ℕ} 0 1 = cc in absurd (omega arith)
+one_answer (Err f) (Err g) h = ap Err (same_refusal f g (cc) (cc))
 
-abbrev pub MeasurePromise : (limit : ℕ) → (bytes : List ℕ) → Measured → Type 0
+abbrev pub MeasurePromise : (limit : ℕ) → (bytes : List ℕ) → Result Extent Refusal → Type 0
 MeasurePromise l b r = measured_is r ≡ outcome.measure l b
 
-pub one_measured : (l : ℕ) (b : List ℕ) (r s : Measured) → MeasurePromise l b r → MeasurePromise l b s → r ≡ s
+pub one_measured : (l : ℕ) (b : List ℕ) (r s : Result Extent Refusal) → MeasurePromise l b r → MeasurePromise l b s → r ≡ s
 one_measured l b r s a d = one_answer r s (a ∙ sym d)
 
 -- the outcome of reading: the answer, and what words and text hold
 pub record Outcome : Type 0 where
-  pub answer : Measured
+  pub answer : Result Extent Refusal
   pub words : List ℕ
   pub text : List ℕ
 
@@ -56,20 +56,20 @@ one_read l b w x r s a d i = record { answer = one_answer r.answer s.answer (a.0
 
 -- the contract of each function is this promise, and nothing else: at the limit that is named, or at 16
 module _ {M : Type 1} {𝓤 : Ura M} (𝓛 : Logic 𝓤) (mem : Memory → SProp 𝓤) (run : Routine → Fun 𝓤) where
-  pub measure_within_promise : (κs : Lfts 1) (l : ℕ) (b : Bor (List ℕ)) (r : Measured)
+  pub measure_within_promise : (κs : Lfts 1) (l : ℕ) (b : Bor (List ℕ)) (r : Result Extent Refusal)
       → measure_within.ensures-1 𝓛 κs mem run l b (record { entry = l; exit = l }) (record { entry = b; exit = b }) r ≡ fact 𝓤 (MeasurePromise l b.now r)
   measure_within_promise κs l b r = refl
 
-  pub measure_promise : (κs : Lfts 1) (b : Bor (List ℕ)) (r : Measured)
+  pub measure_promise : (κs : Lfts 1) (b : Bor (List ℕ)) (r : Result Extent Refusal)
       → measure.ensures-1 𝓛 κs mem run b (record { entry = b; exit = b }) r ≡ fact 𝓤 (MeasurePromise level_default b.now r)
   measure_promise κs b r = refl
 
-  pub read_within_promise : (κs : Lfts 3) (l : ℕ) (b : Bor (List ℕ)) (w x v y : MutBor (List ℕ)) (r : Measured)
+  pub read_within_promise : (κs : Lfts 3) (l : ℕ) (b : Bor (List ℕ)) (w x v y : MutBor (List ℕ)) (r : Result Extent Refusal)
       → read_within.ensures-1 𝓛 κs mem run l b w x (record { entry = l; exit = l }) (record { entry = b; exit = b }) (record { entry = w; exit = v }) (record { entry = x; exit = y }) r
       ≡ fact 𝓤 (ReadPromise l b.now w.now x.now (record { answer = r; words = v.now; text = y.now }))
   read_within_promise κs l b w x v y r = refl
 
-  pub read_promise : (κs : Lfts 3) (b : Bor (List ℕ)) (w x v y : MutBor (List ℕ)) (r : Measured)
+  pub read_promise : (κs : Lfts 3) (b : Bor (List ℕ)) (w x v y : MutBor (List ℕ)) (r : Result Extent Refusal)
       → read.ensures-1 𝓛 κs mem run b w x (record { entry = b; exit = b }) (record { entry = w; exit = v }) (record { entry = x; exit = y }) r
       ≡ fact 𝓤 (ReadPromise level_default b.now w.now x.now (record { answer = r; words = v.now; text = y.now }))
   read_promise κs b w x v y r = refl

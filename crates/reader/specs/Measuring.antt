@@ -20,11 +20,6 @@ refused x p = refuse x (at p)
 abbrev pub faulty : (place : ℕ) → Answer Extent
 faulty p = refuse payload_bad (byte p)
 
--- a byte of text is refused with one number alone
-abbrev pub missed : (number : ℕ) → Place → Answer Extent
-missed x (at p) = refused x p
-missed x (byte p) = faulty p
-
 -- what was measured, as a struct says it: what does not fit, and all
 abbrev pub untold_is : (number place kept : ℕ) → Answer Extent
 untold_is x p k = if (eqb k 1) (faulty p) (refused x p)
@@ -35,17 +30,17 @@ tally_is t = if t.fits (fits t.first t.second t.third) (untold_is (reason_is t.r
 -- a value in a room of n bytes
 unfoldable pub measured : (room : ℕ) → Answer (Tree × List ℕ) → Answer Extent
 measured n (got (v, z)) = fits (n - length z) (tall v) (length (text v))
-measured n (refuse x p) = missed x p
+measured n (refuse x p) = refuse x p
 
 -- values one after another in a room of n bytes, behind i rows and j bytes of text
 unfoldable pub several : (room rows text : ℕ) → Answer (Trees × List ℕ) → Answer Extent
 several n i j (got (vs, z)) = fits (n - length z) (i + tall* vs) (j + length (text* vs))
-several n i j (refuse x p) = missed x p
+several n i j (refuse x p) = refuse x p
 
 -- an array of n bytes, by its contents
 unfoldable pub contents : (whole : ℕ) → Answer (ℕ × Trees) → Answer Extent
 contents n (got (k, vs)) = fits n (suc (tall* vs)) (length (text* vs))
-contents n (refuse x p) = missed x p
+contents n (refuse x p) = refuse x p
 
 -- a scalar of w bytes, t of them text
 abbrev pub block : (room width text place : ℕ) → Answer Extent

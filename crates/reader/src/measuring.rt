@@ -80,7 +80,7 @@ struct Body {
 
 // A list's or a map's kind, and the width of its size and its count.
 #[derive(Clone, Copy)]
-struct Compound {
+struct CompoundCode {
     kind: Kind,
     width: usize,
 }
@@ -309,23 +309,23 @@ fn plain_width(code: u8) -> usize
 }
 
 // A list or a map, by its code.
-fn compound_of(code: u8) -> Option<Compound>
+fn compound_of(code: u8) -> Option<CompoundCode>
     ensures { MatchOption result (is_compound (layout_of code) ≡ false) (λ c. (kind_of code ≡ kind_is c.kind) × (layout_of code ≡ codes.compound c.width) × T (narrow c.width)) }
 {
     match code {
-        format_code::LIST_8 => Some(Compound {
+        format_code::LIST_8 => Some(CompoundCode {
             kind: Kind::List,
             width: format_code::Compound8::COUNT_WIDTH,
         }),
-        format_code::MAP_8 => Some(Compound {
+        format_code::MAP_8 => Some(CompoundCode {
             kind: Kind::Map,
             width: format_code::Compound8::COUNT_WIDTH,
         }),
-        format_code::LIST_32 => Some(Compound {
+        format_code::LIST_32 => Some(CompoundCode {
             kind: Kind::List,
             width: format_code::Compound32::COUNT_WIDTH,
         }),
-        format_code::MAP_32 => Some(Compound {
+        format_code::MAP_32 => Some(CompoundCode {
             kind: Kind::Map,
             width: format_code::Compound32::COUNT_WIDTH,
         }),
