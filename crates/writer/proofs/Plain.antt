@@ -1,6 +1,6 @@
 -- Plain numbers: the bytes that they take, and their kinds, held against the table.
 use Prim.Native.Nat.{ℕ, zero, suc, ◌+◌, ◌-◌, ◌*◌, ◌/◌, ◌%◌, ◌^◌, ◌≤◌, ◌<◌, min, max}
-use mathlib.Core.Path.{◌≡◌, refl, sym, ◌∙◌}
+use mathlib.Core.Path.{◌≡◌, refl, sym, ap, ◌∙◌}
 use mathlib.Core.Bool.{Bool, true, false, not, ◌&&◌, ◌||◌}
 use native.Mathlib.Nat.{le-div_iff_mul-le, div-lt_iff_lt-mul, one-le-pow}
 use native.Mathlib.Omega.{arith}
@@ -8,6 +8,7 @@ use borrow.Author.Tests.{lt-ltb, le-ltb, lt-leb, ltb-true, ltb-false, eqb-true, 
 use borrow.Enum.Match.{AllBelow, each_below}
 use lib.Dec.{T, eqb, eqb→eq, leb, leb→le, ltb, lit<}
 use lib.ListN.{length}
+use Rattle.std.specs.Prelude.{Option, Some, None}
 use Rattle.standard.specs.Choose.{if, lookup}
 use Rattle.standard.specs.Kinds.{Short, never, flag, unsigned, signed, Style, foreign, numbered, blob, lettered, listed, mapped, arrayed, describing, kinds, style_of, fair}
 use Rattle.standard.specs.Table.{ranged}
@@ -46,40 +47,40 @@ module _ (w c n : ℕ) (g : w ≤ 8) (h : n < 256 ^ w) where
   all_bytes : (l f : ℕ) → 2 ^ (8 - l) ≤ max n f → 1 + min w (needed l (max n f)) ≡ 1 + w
   all_bytes l f i = omega (arith, needed_all l (max n f) i)
 
-  never_all : 1 + w ≡ if (ltb n (256 ^ w)) (length (shortest never w c n)) 0
+  never_all : Some (1 + w) ≡ if (ltb n (256 ^ w)) (Some (length (shortest never w c n))) None
   never_all = never_yes w n c (ltb n (256 ^ w)) refl (lt-ltb n (256 ^ w) h)
 
-  never_plain : (l f : ℕ) → 2 ^ (8 - l) ≤ f → 1 + min w (needed l (max n f)) ≡ if (ltb n (256 ^ w)) (length (shortest never w c n)) 0
-  never_plain l f i = all_bytes l f (omega arith) ∙ never_all
+  never_plain : (l f : ℕ) → 2 ^ (8 - l) ≤ f → Some (1 + min w (needed l (max n f))) ≡ if (ltb n (256 ^ w)) (Some (length (shortest never w c n))) None
+  never_plain l f i = ap Some (all_bytes l f (omega arith)) ∙ never_all
 
-  unsigned_plain : (z s : ℕ) → 1 ≤ w → 1 + min w (needed 0 (max n 0)) ≡ if (ltb n (256 ^ w)) (length (shortest (unsigned z s) w c n)) 0
+  unsigned_plain : (z s : ℕ) → 1 ≤ w → Some (1 + min w (needed 0 (max n 0))) ≡ if (ltb n (256 ^ w)) (Some (length (shortest (unsigned z s) w c n))) None
   unsigned_plain z s i = go (eqb n 0) (ltb n 256) refl refl
     where
-      go : (a b : Bool) → eqb n 0 ≡ a → ltb n 256 ≡ b → 1 + min w (needed 0 (max n 0)) ≡ if (ltb n (256 ^ w)) (length (shortest (unsigned z s) w c n)) 0
+      go : (a b : Bool) → eqb n 0 ≡ a → ltb n 256 ≡ b → Some (1 + min w (needed 0 (max n 0))) ≡ if (ltb n (256 ^ w)) (Some (length (shortest (unsigned z s) w c n))) None
       go true b p q =
           let o = eqb-true n 0 p in
           let e : 1 + min w (needed 0 (max n 0)) ≡ 1 = omega (arith, needed_few 0 (max n 0) (omega arith)) in
-          e ∙ unsigned_zero w z s c n i o
+          ap Some e ∙ unsigned_zero w z s c n i o
       go false true p q =
           let o = ltb-true n 256 q in
           let e : 1 + min w (needed 0 (max n 0)) ≡ 2 = omega (arith, needed_few 0 (max n 0) (omega arith), eqb-false n 0 p) in
-          e ∙ unsigned_byte w z s c n i (eqb-false n 0 p) o
+          ap Some e ∙ unsigned_byte w z s c n i (eqb-false n 0 p) o
       go false false p q =
           let o = ltb-false n 256 q in
-          all_bytes 0 0 (omega arith) ∙ unsigned_wide w z s c n (1 + w) (eqb-false n 0 p) o never_all
+          ap Some (all_bytes 0 0 (omega arith)) ∙ unsigned_wide w z s c n (Some (1 + w)) (eqb-false n 0 p) o never_all
 
-  signed_plain : (s : ℕ) → 1 ≤ w → n * 2 < 256 ^ w → 1 + min w (needed 1 (max n 1)) ≡ if (ltb n (256 ^ w)) (length (shortest (signed s) w c n)) 0
+  signed_plain : (s : ℕ) → 1 ≤ w → n * 2 < 256 ^ w → Some (1 + min w (needed 1 (max n 1))) ≡ if (ltb n (256 ^ w)) (Some (length (shortest (signed s) w c n))) None
   unfolding fits_byte
   signed_plain s i j = go (ltb n 128) refl
     where
-      go : (b : Bool) → ltb n 128 ≡ b → 1 + min w (needed 1 (max n 1)) ≡ if (ltb n (256 ^ w)) (length (shortest (signed s) w c n)) 0
+      go : (b : Bool) → ltb n 128 ≡ b → Some (1 + min w (needed 1 (max n 1))) ≡ if (ltb n (256 ^ w)) (Some (length (shortest (signed s) w c n))) None
       go true p =
           let o = ltb-true n 128 p in
           let e : 1 + min w (needed 1 (max n 1)) ≡ 2 = omega (arith, needed_few 1 (max n 1) (omega arith)) in
-          e ∙ signed_byte w s c n (ltb n (256 ^ w)) true refl (lt-ltb n (256 ^ w) h) (rw p) refl
+          ap Some e ∙ signed_byte w s c n (ltb n (256 ^ w)) true refl (lt-ltb n (256 ^ w) h) (rw p) refl
       go false p =
           let o = ltb-false n 128 p in
-          all_bytes 1 1 (omega arith) ∙ signed_wide w s c n (ltb n (256 ^ w)) false refl (lt-ltb n (256 ^ w) h) (rw (p, lt-leb (256 ^ w - 128) n (omega arith))) refl
+          ap Some (all_bytes 1 1 (omega arith)) ∙ signed_wide w s c n (ltb n (256 ^ w)) false refl (lt-ltb n (256 ^ w) h) (rw (p, lt-leb (256 ^ w - 128) n (omega arith))) refl
 
 -- Styles
 
@@ -111,7 +112,7 @@ suits w l f (arrayed s) = false
 suits w l f describing = false
 
 module _ (w l f k n : ℕ) (g : w ≤ 8) (h : n < 256 ^ w) (i : l ≡ 1 → n * 2 < 256 ^ w) where
-  met : (s : Short) (c : ℕ) → T (meets w l f s) → 1 + min w (needed l (max n f)) ≡ if (ltb n (256 ^ w)) (length (shortest s w c n)) 0
+  met : (s : Short) (c : ℕ) → T (meets w l f s) → Some (1 + min w (needed l (max n f))) ≡ if (ltb n (256 ^ w)) (Some (length (shortest s w c n))) None
   unfolding meets
   met never c t = never_plain w c n g h l f (leb→le (2 ^ (8 - l)) f t)
   met (flag y x) c t = absurd t
@@ -122,7 +123,7 @@ module _ (w l f k n : ℕ) (g : w ≤ 8) (h : n < 256 ^ w) (i : l ≡ 1 → n * 
       let r = is_short 1 w l f t in
       rw (r.1, r.2) (signed_plain w c n g h s r.0 (i r.1))
 
-  suited : (s : Style) → fair k n ≡ true → T (suits w l f s) → 1 + min w (needed l (max n f)) ≡ number_size s k n
+  suited : (s : Style) → fair k n ≡ true → T (suits w l f s) → Some (1 + min w (needed l (max n f))) ≡ number_size s k n
   unfolding suits number_size ranged
   suited foreign e t = absurd t
   suited (numbered s v) e t = rw (eqb→eq v w (and_left (eqb v w) (meets w l f s) t), e) (fairly s w (k % 256) n _ (met s (k % 256) (and_right (eqb v w) (meets w l f s) t)))
@@ -181,5 +182,5 @@ module _ (k : ℕ) (h : k < 144) (e : plain_kind k ≡ true) where
   unfolding lookup kinds style_of plain_kind short meets suits every
   plain_suits = plains (λ j. suits (width j) (j % 16) (floor j) (style_of j)) tt
 
-  pub plain_bytes : (n m d r : ℕ) → n < 256 ^ width k → (k % 16 ≡ 1 → n * 2 < 256 ^ width k) → m ≡ max n (floor k) → d ≡ needed (k % 16) m → r ≡ min (1 * 2 ^ (k / 16) % 2 ^ 64 / 32) d → 1 + r ≡ number_size (style_of k) k n
+  pub plain_bytes : (n m d r : ℕ) → n < 256 ^ width k → (k % 16 ≡ 1 → n * 2 < 256 ^ width k) → m ≡ max n (floor k) → d ≡ needed (k % 16) m → r ≡ min (1 * 2 ^ (k / 16) % 2 ^ 64 / 32) d → Some (1 + r) ≡ number_size (style_of k) k n
   plain_bytes n m d r i j p q s = rw (s, plain_shift, q, p) (suited (width k) (k % 16) (floor k) k n plain_width_lem i j (style_of k) (plain_fair n) plain_suits)

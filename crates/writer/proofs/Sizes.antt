@@ -1,6 +1,6 @@
 -- The bytes of a number and of letters by their kind, and rows with children.
 use Prim.Native.Nat.{ℕ, zero, suc, ◌+◌, ◌%◌, ◌^◌, ◌≤◌, ◌<◌}
-use mathlib.Core.Path.{◌≡◌, refl, sym, ◌∙◌, subst}
+use mathlib.Core.Path.{◌≡◌, refl, sym, ap, ◌∙◌, subst}
 use mathlib.Core.List.{List, [], ◌∷◌, ◌++◌}
 use mathlib.Core.Bool.{Bool, true, false, not, ◌&&◌}
 use native.Mathlib.Nat.{pow-le-pow_right}
@@ -9,6 +9,7 @@ use borrow.Author.Tests.{lt-ltb, le-ltb, le-leb, lt-leb, eq-eqb, ne_eqb}
 use lib.Dec.{T, eqb, eqb→eq, leb, leb→le, ltb, ltb→lt, lit<}
 use lib.ListN.{length, take, length-append}
 use lib.Seq.{length-take-le}
+use Rattle.std.specs.Prelude.{Option, Some, None}
 use Rattle.standard.specs.Choose.{if}
 use Rattle.standard.specs.Kinds.{Short, never, flag, unsigned, signed, Style, foreign, numbered, blob, lettered, listed, mapped, arrayed, describing, kinds, style_of, is_kind, member, fair, good_length, count_in, kind_in}
 use Rattle.standard.specs.Table.{most, Spot, any, like, ranged, letters, children, spot_in}
@@ -27,42 +28,46 @@ use Rattle.writer.proofs.Direct.{coded_long, flag_long}
 
 -- The bytes of a number
 
-pub if_yes : (t b : Bool) (x y z : ℕ) → b ≡ t → b ≡ true → z ≡ x → z ≡ if t x y
+pub if_yes : (t b : Bool) (x y z : Option ℕ) → b ≡ t → b ≡ true → z ≡ x → z ≡ if t x y
 if_yes t b x y z e f g = rw (← e, f) g
 
-pub if_no : (t b : Bool) (x y z : ℕ) → b ≡ t → b ≡ false → z ≡ y → z ≡ if t x y
+pub if_no : (t b : Bool) (x y z : Option ℕ) → b ≡ t → b ≡ false → z ≡ y → z ≡ if t x y
 if_no t b x y z e f g = rw (← e, f) g
 
-pub never_yes : (w n c : ℕ) (b : Bool) → b ≡ ltb n (256 ^ w) → b ≡ true → 1 + w ≡ if (ltb n (256 ^ w)) (length (shortest never w c n)) 0
+-- r is the bytes of a number in a short form, if it is in range
+abbrev pub Bytes : (width number : ℕ) → Short → (code : ℕ) → Option ℕ → Type 0
+Bytes w n s c r = r ≡ if (ltb n (256 ^ w)) (Some (length (shortest s w c n))) None
+
+pub never_yes : (w n c : ℕ) (b : Bool) → b ≡ ltb n (256 ^ w) → b ≡ true → Bytes w n never c (Some (1 + w))
 unfolding shortest
-never_yes w n c b e f = if_yes (ltb n (256 ^ w)) b _ 0 (1 + w) e f (sym (coded_long c w n))
+never_yes w n c b e f = if_yes (ltb n (256 ^ w)) b _ None (Some (1 + w)) e f (ap Some (sym (coded_long c w n)))
 
 wide : (w n : ℕ) → 1 ≤ w → n < 256 → n < 256 ^ w
 wide w n h i = let j : 256 ^ 1 ≤ 256 ^ w = pow-le-pow_right {n = 256} (lit< tt) h in omega arith
 
-pub unsigned_zero : (w z s c n : ℕ) → 1 ≤ w → n ≡ 0 → 1 ≡ if (ltb n (256 ^ w)) (length (shortest (unsigned z s) w c n)) 0
+pub unsigned_zero : (w z s c n : ℕ) → 1 ≤ w → n ≡ 0 → Bytes w n (unsigned z s) c (Some 1)
 unfolding shortest
 unsigned_zero w z s c n h e = rw (lt-ltb n (256 ^ w) (wide w n h (omega arith)), eq-eqb n 0 e)
 
-pub unsigned_byte : (w z s c n : ℕ) → 1 ≤ w → ¬ (n ≡ 0) → n < 256 → 2 ≡ if (ltb n (256 ^ w)) (length (shortest (unsigned z s) w c n)) 0
+pub unsigned_byte : (w z s c n : ℕ) → 1 ≤ w → ¬ (n ≡ 0) → n < 256 → Bytes w n (unsigned z s) c (Some 2)
 unfolding shortest
-unsigned_byte w z s c n h e i = rw (lt-ltb n (256 ^ w) (wide w n h i), ne_eqb n 0 e, lt-ltb n 256 i) (omega (arith, length_be 1 n))
+unsigned_byte w z s c n h e i = rw (lt-ltb n (256 ^ w) (wide w n h i), ne_eqb n 0 e, lt-ltb n 256 i) (ap Some (omega (arith, length_be 1 n)))
 
-pub unsigned_wide : (w z s c n r : ℕ) → ¬ (n ≡ 0) → 256 ≤ n → r ≡ if (ltb n (256 ^ w)) (length (shortest never w c n)) 0 → r ≡ if (ltb n (256 ^ w)) (length (shortest (unsigned z s) w c n)) 0
+pub unsigned_wide : (w z s c n : ℕ) (r : Option ℕ) → ¬ (n ≡ 0) → 256 ≤ n → Bytes w n never c r → Bytes w n (unsigned z s) c r
 unfolding shortest
 unsigned_wide w z s c n r e i f = rw (ne_eqb n 0 e, le-ltb n 256 i) f
 
-pub signed_byte : (w s c n : ℕ) (a b : Bool) → a ≡ ltb n (256 ^ w) → a ≡ true → b ≡ fits_byte w n → b ≡ true → 2 ≡ if (ltb n (256 ^ w)) (length (shortest (signed s) w c n)) 0
+pub signed_byte : (w s c n : ℕ) (a b : Bool) → a ≡ ltb n (256 ^ w) → a ≡ true → b ≡ fits_byte w n → b ≡ true → Bytes w n (signed s) c (Some 2)
 unfolding shortest
-signed_byte w s c n a b e f g h = rw (← e, f, ← g, h) (omega (arith, length_be 1 n))
+signed_byte w s c n a b e f g h = rw (← e, f, ← g, h) (ap Some (omega (arith, length_be 1 n)))
 
-pub signed_wide : (w s c n : ℕ) (a b : Bool) → a ≡ ltb n (256 ^ w) → a ≡ true → b ≡ fits_byte w n → b ≡ false → 1 + w ≡ if (ltb n (256 ^ w)) (length (shortest (signed s) w c n)) 0
+pub signed_wide : (w s c n : ℕ) (a b : Bool) → a ≡ ltb n (256 ^ w) → a ≡ true → b ≡ fits_byte w n → b ≡ false → Bytes w n (signed s) c (Some (1 + w))
 unfolding shortest
-signed_wide w s c n a b e f g h = rw (← e, f, ← g, h) (omega (arith, length_be w n))
+signed_wide w s c n a b e f g h = rw (← e, f, ← g, h) (ap Some (omega (arith, length_be w n)))
 
-pub boolean_yes : (y x c n : ℕ) → n ≤ 1 → 1 ≡ if (ranged (numbered (flag y x) 1) 0x56 n) (length (shortest (flag y x) 1 c n)) 0
+pub boolean_yes : (y x c n : ℕ) → n ≤ 1 → Some 1 ≡ if (ranged (numbered (flag y x) 1) 0x56 n) (Some (length (shortest (flag y x) 1 c n))) None
 unfolding ranged fair shortest
-boolean_yes y x c n h = rw (lt-ltb n 256 (omega arith), le-leb n 1 h) (sym (flag_long (eqb n 0) x y))
+boolean_yes y x c n h = rw (lt-ltb n 256 (omega arith), le-leb n 1 h) (ap Some (sym (flag_long (eqb n 0) x y)))
 
 pub and_true : (b : Bool) → (b && true) ≡ b
 and_true true = refl
@@ -72,55 +77,41 @@ and_false : (b : Bool) → (b && false) ≡ false
 and_false true = refl
 and_false false = refl
 
-pub boolean_no : (y x c n : ℕ) → 1 < n → 0 ≡ if (ranged (numbered (flag y x) 1) 0x56 n) (length (shortest (flag y x) 1 c n)) 0
+pub boolean_no : (y x c n : ℕ) → 1 < n → None ≡ if (ranged (numbered (flag y x) 1) 0x56 n) (Some (length (shortest (flag y x) 1 c n))) None
 unfolding ranged fair
 boolean_no y x c n h = rw (lt-leb n 1 h, and_false (ltb n (256 ^ 1)))
 
-pub char_yes : (c n r : ℕ) (b : Bool) → b ≡ fair 0x73 n → b ≡ true → r ≡ if (ltb n (256 ^ 4)) (length (shortest never 4 c n)) 0 → r ≡ if (ranged (numbered never 4) 0x73 n) (length (shortest never 4 c n)) 0
+pub char_yes : (c n : ℕ) (r : Option ℕ) (b : Bool) → b ≡ fair 0x73 n → b ≡ true → Bytes 4 n never c r → r ≡ if (ranged (numbered never 4) 0x73 n) (Some (length (shortest never 4 c n))) None
 unfolding ranged
 char_yes c n r b e f g = rw (← e, f, and_true (ltb n (256 ^ 4))) g
 
-pub char_no : (c n : ℕ) (b : Bool) → b ≡ fair 0x73 n → b ≡ false → 0 ≡ if (ranged (numbered never 4) 0x73 n) (length (shortest never 4 c n)) 0
+pub char_no : (c n : ℕ) (b : Bool) → b ≡ fair 0x73 n → b ≡ false → None ≡ if (ranged (numbered never 4) 0x73 n) (Some (length (shortest never 4 c n))) None
 unfolding ranged
 char_no c n b e f = rw (← e, f, and_false (ltb n (256 ^ 4)))
 
 -- a kind whose numbers are held to their width alone
-pub fairly : (s : Short) (w c n r : ℕ) → r ≡ if (ltb n (256 ^ w)) (length (shortest s w c n)) 0 → r ≡ if (ltb n (256 ^ w) && true) (length (shortest s w c n)) 0
+pub fairly : (s : Short) (w c n : ℕ) (r : Option ℕ) → Bytes w n s c r → r ≡ if (ltb n (256 ^ w) && true) (Some (length (shortest s w c n))) None
 fairly s w c n r e = rw (and_true (ltb n (256 ^ w))) e
-
-no_number : (s : Style) (k n : ℕ) → is_number s ≡ false → 0 ≡ number_size s k n
-unfolding number_size
-no_number foreign k n e = refl
-no_number (numbered s w) k n e = absurd (subst T e tt)
-no_number (blob w) k n e = refl
-no_number (lettered s) k n e = refl
-no_number (listed a s) k n e = refl
-no_number (mapped s) k n e = refl
-no_number (arrayed s) k n e = refl
-no_number describing k n e = refl
-
-pub no_number_kind : (k n : ℕ) → Rest (kinds_onto is_number kinds []) k → 0 ≡ number_size (style_of k) k n
-no_number_kind k n r = no_number (style_of k) k n (other is_number refl k r)
 
 -- The bytes of letters
 
 module _ (k n : ℕ) (x : List ℕ) where
-  pub text_long_lem : most < n → 0 ≡ text_size k n x
+  pub text_long_lem : most < n → None ≡ text_size k n x
   unfolding text_size
   text_long_lem h = rw (lt-leb n most h)
 
-  pub text_short_lem : length x < n → 0 ≡ text_size k n x
+  pub text_short_lem : length x < n → None ≡ text_size k n x
   unfolding text_size
   text_short_lem h = rw (lt-leb n (length x) h, and_false (leb n most))
 
   -- it is all there, and g bytes of it are good
-  pub text_bad : n ≤ length x → (g : ℕ) → g ≡ good_length k (take n x) → g < n → 0 ≡ text_size k n x
+  pub text_bad : n ≤ length x → (g : ℕ) → g ≡ good_length k (take n x) → g < n → None ≡ text_size k n x
   unfolding text_size
   text_bad i g e h =
       let b = some_bad k (take n x) (omega (arith, e, h, length-take-le n x i)) in
       rw (b, and_false (leb n (length x)), and_false (leb n most))
 
-  pub text_good : n ≤ most → n ≤ length x → (g : ℕ) → g ≡ good_length k (take n x) → n ≤ g → (z : ℕ) → z ≡ if (ltb n short_end) 2 5 → z + n ≡ text_size k n x
+  pub text_good : n ≤ most → n ≤ length x → (g : ℕ) → g ≡ good_length k (take n x) → n ≤ g → (z : ℕ) → z ≡ if (ltb n short_end) 2 5 → Some (z + n) ≡ text_size k n x
   unfolding text_size
   text_good h i g e j z f =
       let b = all_good k (take n x) (omega (arith, e, j, length-take-le n x i)) in

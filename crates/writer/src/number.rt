@@ -1,6 +1,6 @@
 // Numbers, the most common rows: the bytes that each takes where it stands in no array (docs/FORMAT.md, 3.2).
 // A number that is not in the range of its kind takes none.
-ghost use Rattle.std.specs.Prelude.{◌≡◌, true, Some, None, OnSome, ℕ, ◌-◌, ◌*◌, ◌/◌, ◌%◌, ◌^◌, ◌≤◌, ◌<◌, min, ltb, length};
+ghost use Rattle.std.specs.Prelude.{◌≡◌, true, Some, None, IfSome, ℕ, ◌-◌, ◌*◌, ◌/◌, ◌%◌, ◌^◌, ◌≤◌, ◌<◌, min, ltb, length};
 ghost use Rattle.standard.specs.Choose.{if};
 ghost use Rattle.standard.specs.Kinds.{never, flag, unsigned, signed, numbered, style_of};
 ghost use Rattle.standard.specs.Table.{ranged};
@@ -67,6 +67,7 @@ fn size_signed(number: u64, width: usize) -> Option<usize>
 }
 
 // The bytes of a number, by its kind; none where the kind holds no numbers.
+#[tactic(auto, unfolding(crate::specs::Sizing::number_size, standard::specs::Table::ranged, standard::specs::Kinds::style_of, standard::specs::Kinds::kinds, standard::specs::Kinds::fair, standard::specs::Choose::lookup), using(crate::proofs::Sizes::fairly))]
 pub(crate) fn size_number(kind: Kind, number: u64) -> Option<usize>
     ensures { result ≡ number_size (style_of (kind_is kind)) (kind_is kind) number }
 {
@@ -148,7 +149,7 @@ fn plain_bytes(kind: u64, number: u64) -> usize
 
 // The bytes of a plain number.
 pub(crate) fn plain_size(kind: u64, number: u64) -> Option<usize>
-    ensures { OnSome result (λ size. Some size ≡ number_size (style_of kind) kind number) }
+    ensures { IfSome result (λ size. Some size ≡ number_size (style_of kind) kind number) }
 {
     let upper = kind / 16;
     let low = kind % 16;

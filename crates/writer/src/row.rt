@@ -45,6 +45,7 @@ pub(crate) fn refuse(reason: Reason, place: usize) -> Refusal
 }
 
 // May a row of that kind stand there: in no array, or in one that tells a kind of its elements.
+#[tactic(auto, unfolding(standard::specs::Table::allowed), using(standard::specs::Facts::same_kind))]
 fn is_allowed(told: Option<Kind>, kind: Kind) -> bool
     ensures { result ≡ allowed (spot_is told) (kind_is kind) }
 {
@@ -65,6 +66,7 @@ fn outside(style: Style, number: u64) -> Reason
 }
 
 // May a row say what its children are: an array may not tell a kind that arrays cannot hold.
+#[tactic(auto, unfolding(standard::specs::Table::naming, standard::specs::Table::spot_in, standard::specs::Kinds::kind_in))]
 fn is_naming(style: Style, number: u64) -> bool
     ensures { result ≡ naming (spot_in (style_is style) number) }
 {

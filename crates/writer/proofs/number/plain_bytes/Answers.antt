@@ -7,4 +7,4 @@ plain_need-requires c = plain_low _ c.requires.0 c.requires.1
 
 pub returns : goal.returns
 returns c = let p = c.requires in
-    plain_bytes _ p.0 p.1 _ _ _ _ p.2 p.3 c.larger.ensures c.plain_need.ensures c.smaller.ensures
+    plain_bytes _ p.0 p.1 _ _ _ _ p.2 p.3 c.max.ensures c.plain_need.ensures c.min.ensures
