@@ -15,8 +15,7 @@ use Rattle.standard.specs.Encode.{fits_byte, short_end, shortest, enclosed, comp
 use Rattle.standard.specs.Facts.{and_right}
 use Rattle.laws.specs.Numbers.{length_be}
 use Rattle.laws.specs.Written.{no_children, no_text}
-use Rattle.writer.specs.Heads.{enclosure, head, item_head, item_width, body_of, head_is}
-use Rattle.writer.specs.declared.head.Head.{Head}
+use Rattle.writer.specs.Heads.{enclosure, head, item_head, item_width, body_of}
 use Rattle.writer.proofs.Tabled.{all_kinds, of_kind}
 
 enclosed_head : (s k n : ℕ) (b : List ℕ) → enclosed s k n b ≡ enclosure s k n (length b) ++ b
@@ -194,12 +193,3 @@ item_narrow describing t = omega arith
 
 pub item_short : (k : ℕ) → item_width (style_of k) ≤ 9
 item_short k = item_narrow (style_of k) (style_narrow k)
-
--- a head's length by its fields
-pub head_width : (h : Head) (s : Style) (k j n b : ℕ) → head_is h ≡ head s j n b → s ≡ style_of k → (1 + h.width + h.count_width ≡ length (head (style_of k) j n b)) × (1 + h.width + h.count_width ≤ 10)
-head_width h s k j n b e f =
-    let a = length-append (be h.width h.number) (be h.count_width h.count) in
-    let d : length (head_is h) ≡ length (head (style_of k) j n b) = rw f at (ap length e) in (
-      omega (arith, length_be h.width h.number, length_be h.count_width h.count),
-      omega (arith, length_be h.width h.number, length_be h.count_width h.count, head_short k j n b),
-    )

@@ -1,25 +1,21 @@
--- Rows that are written by their kind at once: what the arms of a match leave out, and the bytes that are all of a row.
-use Prim.Native.Nat.{ℕ, suc, ◌+◌, ◌%◌, ◌≤◌}
-use mathlib.Core.Path.{◌≡◌, refl, sym}
+-- Rows that are written by their kind at once: the lengths of what is stored, and the bytes that are all of a row.
+use Prim.Native.Nat.{ℕ, suc, ◌+◌, ◌≤◌}
+use mathlib.Core.Path.{◌≡◌, refl, sym, subst}
 use mathlib.Core.List.{List, [], ◌∷◌, ◌++◌, append-nil}
 use mathlib.Core.Bool.{Bool, true, false}
-use mathlib.Core.Logic.{◌⊎◌, inl, inr}
 use native.Mathlib.Omega.{arith}
-use borrow.Author.Tests.{ne_eqb}
-use lib.Dec.{eqb, ltb}
+use lib.Dec.{T, eqb, ltb}
 use lib.ListN.{length, take, drop, set, length-append, length-drop}
 use lib.Seq.{sets, length-take-le}
-use Rattle.standard.specs.Choose.{if, lookup}
+use Rattle.standard.specs.Choose.{if}
 use Rattle.standard.specs.Bytes.{be}
-use Rattle.standard.specs.Kinds.{unsigned, Style, foreign, numbered, blob, lettered, listed, mapped, arrayed, describing, kinds, style_of}
+use Rattle.standard.specs.Kinds.{unsigned, Style, foreign, numbered, blob, lettered, listed, mapped, arrayed, describing}
 use Rattle.standard.specs.Table.{letters}
 use Rattle.standard.specs.Encode.{shortest}
 use Rattle.laws.specs.Numbers.{length_be}
-use Rattle.standard.proofs.Lookup.{Rest}
 use Rattle.writer.specs.Heads.{head}
 use Rattle.writer.specs.Marks.{mark_width}
-use Rattle.writer.specs.Direct.{is_number, is_lettered, is_list_or_map, number_head, compound_head, letters_row, Put}
-use Rattle.writer.proofs.Tabled.{kinds_onto, other}
+use Rattle.writer.specs.Direct.{is_number, is_lettered, is_list_or_map, Put}
 use Rattle.laws.specs.Stores.{put_on}
 
 -- A code and a number behind it
@@ -61,78 +57,49 @@ pub put_behind : (l l₁ l₂ : List ℕ) (at r n : ℕ) (f g : List ℕ) → Pu
 put_behind l l₁ l₂ at r n f g p e i =
     record { size = omega (arith, p.size, length-append f g); stored = put_on l l₁ l₂ at (at + r) f g p.stored e (omega (arith, p.size)) }
 
--- What the last arm of a match leaves out
-
-pub no_number : (k j n : ℕ) → Rest (kinds_onto is_number kinds []) k → number_head (style_of k) j n ≡ []
-unfolding number_head
-no_number k j n h = rw (other is_number refl k h)
-
-pub no_letters : (k j n : ℕ) (x : List ℕ) → Rest (kinds_onto is_lettered kinds []) k → letters_row (style_of k) j n x ≡ []
-unfolding letters_row
-no_letters k j n x h = rw (other is_lettered refl k h)
-
-pub no_compound : (k j n b : ℕ) → (n ≡ 0 → ⊥) → Rest (kinds_onto is_list_or_map kinds []) k → compound_head (style_of k) j n b ≡ []
-unfolding compound_head
-no_compound k j n b z h = rw (ne_eqb n 0 z, other is_list_or_map refl k h)
-
--- Rows that are written at once
-
--- a front is all of the head and the text; so many bytes are text, and the mark has that width
+-- Rows that are written at once: a front is all of the head and the text; so many bytes are text, and the mark has that width
 pub record Sole (s : Style) (kind number body : ℕ) (text front : List ℕ) (count width : ℕ) : Type 0 where
   pub ahead : front ≡ head s kind number body ++ take count text
   pub texts : count ≡ letters s number
   pub mark : width ≡ mark_width s number
 
--- that, or no front at all
-abbrev pub Front : Style → (kind number body : ℕ) → (text front : List ℕ) → (count width : ℕ) → Type 0
-Front s k n b x f l w = (f ≡ []) ⊎ Sole s k n b x f l w
+pub number_sole : (s : Style) (k n b : ℕ) (x : List ℕ) → is_number s ≡ true → Sole s k n b x (head s k n 0) 0 0
+unfolding head letters mark_width
+number_sole foreign k n b x e = absurd (subst T (sym e) tt)
+number_sole (numbered s w) k n b x e = record { ahead = sym (append-nil _); texts = refl; mark = refl }
+number_sole (blob w) k n b x e = absurd (subst T (sym e) tt)
+number_sole (lettered s) k n b x e = absurd (subst T (sym e) tt)
+number_sole (listed z s) k n b x e = absurd (subst T (sym e) tt)
+number_sole (mapped s) k n b x e = absurd (subst T (sym e) tt)
+number_sole (arrayed s) k n b x e = absurd (subst T (sym e) tt)
+number_sole describing k n b x e = absurd (subst T (sym e) tt)
 
-pub number_front : (s : Style) (k n b : ℕ) (x : List ℕ) → Front s k n b x (number_head s k n) 0 0
-unfolding number_head head letters mark_width
-number_front foreign k n b x = inl refl
-number_front (numbered s w) k n b x = inr (record { ahead = sym (append-nil _); texts = refl; mark = refl })
-number_front (blob w) k n b x = inl refl
-number_front (lettered s) k n b x = inl refl
-number_front (listed e s) k n b x = inl refl
-number_front (mapped s) k n b x = inl refl
-number_front (arrayed s) k n b x = inl refl
-number_front describing k n b x = inl refl
+pub compound_sole : (s : Style) (k n b : ℕ) (x : List ℕ) → is_list_or_map s ≡ true → Sole s k n b x (head s k n b) 0 (if (eqb n 0) 0 3)
+unfolding head letters mark_width
+compound_sole foreign k n b x e = absurd (subst T (sym e) tt)
+compound_sole (numbered s w) k n b x e = absurd (subst T (sym e) tt)
+compound_sole (blob w) k n b x e = absurd (subst T (sym e) tt)
+compound_sole (lettered s) k n b x e = absurd (subst T (sym e) tt)
+compound_sole (listed z s) k n b x e = record { ahead = sym (append-nil _); texts = refl; mark = refl }
+compound_sole (mapped s) k n b x e = record { ahead = sym (append-nil _); texts = refl; mark = refl }
+compound_sole (arrayed s) k n b x e = absurd (subst T (sym e) tt)
+compound_sole describing k n b x e = absurd (subst T (sym e) tt)
 
-full_compound : (s : Style) (k n b : ℕ) (x : List ℕ) → eqb n 0 ≡ false → Front s k n b x (compound_head s k n b) 0 3
-unfolding compound_head head letters mark_width
-full_compound foreign k n b x q = inl (rw q)
-full_compound (numbered s w) k n b x q = inl (rw q)
-full_compound (blob w) k n b x q = inl (rw q)
-full_compound (lettered s) k n b x q = inl (rw q)
-full_compound (listed e s) k n b x q = inr (record { ahead = rw (q, append-nil); texts = refl; mark = rw q })
-full_compound (mapped s) k n b x q = inr (record { ahead = rw (q, append-nil); texts = refl; mark = rw q })
-full_compound (arrayed s) k n b x q = inl (rw q)
-full_compound describing k n b x q = inl (rw q)
+pub letters_sole : (s : Style) (k n b : ℕ) (x : List ℕ) → is_lettered s ≡ true → Sole s k n b x (head s k n 0 ++ take n x) n 0
+unfolding head letters mark_width
+letters_sole foreign k n b x e = absurd (subst T (sym e) tt)
+letters_sole (numbered s w) k n b x e = absurd (subst T (sym e) tt)
+letters_sole (blob w) k n b x e = absurd (subst T (sym e) tt)
+letters_sole (lettered s) k n b x e = record { ahead = refl; texts = refl; mark = refl }
+letters_sole (listed z s) k n b x e = absurd (subst T (sym e) tt)
+letters_sole (mapped s) k n b x e = absurd (subst T (sym e) tt)
+letters_sole (arrayed s) k n b x e = absurd (subst T (sym e) tt)
+letters_sole describing k n b x e = absurd (subst T (sym e) tt)
 
-pub compound_front : (s : Style) (k n b : ℕ) (x : List ℕ) → Front s k n b x (compound_head s k n b) 0 3
-unfolding compound_head
-compound_front s k n b x = go (eqb n 0) refl
-  where
-    go : (t : Bool) → eqb n 0 ≡ t → Front s k n b x (compound_head s k n b) 0 3
-    go true q = inl (rw q)
-    go false q = full_compound s k n b x q
+pub blob_sole : (s : Style) (w k n b : ℕ) (x : List ℕ) → s ≡ blob w → Sole s k n b x (k ∷ take w x) w 0
+unfolding head letters mark_width
+blob_sole s w k n b x e = rw e (record { ahead = refl; texts = refl; mark = refl })
 
-pub letters_front : (s : Style) (k n b : ℕ) (x : List ℕ) → Front s k n b x (letters_row s k n x) n 0
-unfolding letters_row head letters mark_width
-letters_front foreign k n b x = inl refl
-letters_front (numbered s w) k n b x = inl refl
-letters_front (blob w) k n b x = inl refl
-letters_front (lettered s) k n b x = inr (record { ahead = refl; texts = refl; mark = refl })
-letters_front (listed e s) k n b x = inl refl
-letters_front (mapped s) k n b x = inl refl
-letters_front (arrayed s) k n b x = inl refl
-letters_front describing k n b x = inl refl
-
-pub described_front : (k n b : ℕ) (x : List ℕ) → k ≡ 0 → Front (style_of k) (k % 256) n b x (0 ∷ []) 0 0
-unfolding style_of lookup kinds head letters mark_width
-described_front k n b x e = rw e (inr (record { ahead = refl; texts = refl; mark = refl }))
-
--- where nothing was stored, nothing changed
-pub unput : (f l : List ℕ) (at : ℕ) (m : List ℕ) (r : ℕ) → Put f l at m r → r ≤ 0 → m ≡ l
-unput [] l at m r p h = p.stored
-unput (b ∷ f) l at m r p h = absurd (omega (arith, p.size))
+pub described_sole : (s : Style) (n b : ℕ) (x : List ℕ) → s ≡ describing → Sole s 0 n b x (0 ∷ []) 0 0
+unfolding head letters mark_width
+described_sole s n b x e = rw e (record { ahead = refl; texts = refl; mark = refl })

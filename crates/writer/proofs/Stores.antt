@@ -1,17 +1,15 @@
--- Runs of stores: what straight lines and loops of stores come to, as one run of bytes.
+-- Runs of stores: what stores come to, as one run of bytes.
 use Prim.Native.Nat.{ℕ, zero, suc, ◌+◌, ◌*◌, ◌-◌, ◌/◌, ◌%◌, ◌^◌, ◌≤◌, ◌<◌}
-use mathlib.Core.Path.{◌≡◌, refl, sym, ap, ◌∙◌}
+use mathlib.Core.Path.{◌≡◌, refl, sym, ap, ◌∙◌, subst}
 use mathlib.Core.List.{List, [], ◌∷◌, ◌++◌}
-use native.Mathlib.Nat.{add-zero, zero-add, add-suc, suc-add, div-div-eq-div-mul, pow-succ', div-one}
-use native.Mathlib.Numerals.{unary_clauses}
+use native.Mathlib.Nat.{add-zero, zero-add, suc-add, div-one}
 use native.Mathlib.Omega.{arith}
-use lib.ListN.{length, take, drop, get_or, set, length-append}
-use lib.Seq.{sets, set-set, set_comm, take-nil, take-take, drop-cons, drop-drop, drop-set-lt}
+use borrow.Rule.Slice.PartMut.{put_mid}
+use lib.ListN.{length, take, drop, get_or, set}
+use lib.Seq.{sets, sets-eq, set-set, set_comm, take-nil, take-take, drop-cons, drop-drop, drop-set-lt}
+use Rattle.std.specs.Int.{w64, byte_at, bytes_high_first, to_be_bytes}
 use Rattle.standard.specs.Bytes.{be, unbe, spell}
-use Rattle.laws.specs.Numbers.{length_be}
 use Rattle.laws.specs.Stores.{sets_append, drop_take}
-use Rattle.writer.specs.Heads.{head_is}
-use Rattle.writer.specs.declared.head.Head.{Head}
 
 -- a store behind a run
 sets_set : (l : List ℕ) (i : ℕ) (xs : List ℕ) (k a : ℕ) → i + length xs ≤ k → set (sets l i xs) k a ≡ sets (set l k a) i xs
@@ -29,59 +27,34 @@ pub drop_sets : (l : List ℕ) (i : ℕ) (xs : List ℕ) (n : ℕ) → i + lengt
 drop_sets l i [] n h = refl
 drop_sets l i (a ∷ xs) n h = drop_sets (set l i a) (suc i) xs n (omega arith) ∙ drop-set-lt n l i a (omega arith)
 
--- Numbers in straight line
+-- Parts that are stored as a whole
 
--- the byte of a number with w bytes behind it
-abbrev pub digit : (behind number : ℕ) → ℕ
-digit zero n = n % 256
-digit (suc w) n = n / 256 ^ suc w % 256
+-- a part of a list, from i to e, is one run
+pub part_stored : (l : List ℕ) (i e : ℕ) (ys : List ℕ) → i + length ys ≡ e → e ≤ length l → put_mid i (e - i) l ys ≡ sets l i ys
+part_stored l i e ys h k =
+    let n : e - i ≡ length ys = omega arith in
+    rw (n, drop-drop (length ys) i l) (sym (sets-eq ys l i (omega arith)))
 
--- the stores of the last w bytes of a number, the first of them i places behind `at`
-abbrev pub straight : List ℕ → (at i width number : ℕ) → List ℕ
-straight l at i zero n = l
-straight l at i (suc w) n = straight (set l (at + i) (digit w n)) at (suc i) w n
+-- the bytes of a number in network byte order are those of the definitions
+byte_is : (w n : ℕ) → byte_at w n ≡ n / 256 ^ w % 256
+byte_is zero n = sym (ap (λ (m : ℕ). m % 256) (div-one n))
+byte_is (suc w) n = refl
 
-digit_be : (w n : ℕ) → digit w n ≡ n / 256 ^ w % 256
-digit_be zero n = sym (ap (λ (m : ℕ). m % 256) (div-one n))
-digit_be (suc w) n = refl
-
-on : (l : List ℕ) (at i w n : ℕ) → straight l at i w n ≡ sets l (at + i) (be w n)
+bytes_are : (w n : ℕ) → bytes_high_first w n ≡ be w n
 unfolding be
-on l at i zero n = refl
-on l at i (suc w) n = on (set l (at + i) (digit w n)) at (suc i) w n ∙ rw (add-suc, digit_be w n)
+bytes_are zero n = refl
+bytes_are (suc w) n = rw (byte_is w n, bytes_are w n)
 
--- at a numeral for w the left side computes to the stores of the code, line by line
-pub spread : (l : List ℕ) (at w n : ℕ) → straight (set l at (digit w n)) at 1 w n ≡ sets l at (be (suc w) n)
+-- the low bytes of a number are the last of more of them
+low_last : (a w n : ℕ) → drop a (be (a + w) n) ≡ be w n
 unfolding be
-spread l at w n = on (set l at (digit w n)) at 1 w n ∙ (let e : at + 1 ≡ suc at = omega arith in rw (e, digit_be w n))
+low_last zero w n = rw zero-add
+low_last (suc a) w n = rw (suc-add a w) (low_last a w n)
 
--- Numbers from the last byte to the first
-
-be_last : (w n : ℕ) → be (suc w) n ≡ be w (n / 256) ++ ((n % 256) ∷ [])
-unfolding be
-be_last zero n = rw div-one
-be_last (suc w) n =
-    let d : n / 256 / 256 ^ w ≡ n / 256 ^ suc w = div-div-eq-div-mul n 256 (256 ^ w) ∙ rw pow-succ' in
-    rw d (ap (λ (l : List ℕ). (n / 256 ^ suc w % 256) ∷ l) (be_last w n))
-
--- the last byte is stored, and then those before it
-pub last_first : (l : List ℕ) (at k n : ℕ) → 0 < k → sets (set l (at + (k - 1)) (n % 256)) at (be (k - 1) (n / 256)) ≡ sets l at (be k n)
-last_first l at zero n h = absurd (omega arith)
-last_first l at (suc k) n h =
-    let d : suc k - 1 ≡ k = omega arith in
-    let e = length_be k (n / 256) in
-    rw (d, be_last, sets_append, length_be) (sym (sets_set l at (be k (n / 256)) (at + k) (n % 256) (omega arith)))
-
-pub none_left : (l : List ℕ) (at k n : ℕ) → k ≤ 0 → l ≡ sets l at (be k n)
-unfolding be
-none_left l at k n h = let e : k ≡ 0 = omega arith in rw e
+pub low_bytes : (w n : ℕ) → w ≤ 8 → drop (8 - w) (to_be_bytes w64 n) ≡ be w n
+low_bytes w n h = let e : 8 - w + w ≡ 8 = omega arith in ap (drop (8 - w)) (bytes_are 8 n) ∙ subst (λ m. drop (8 - w) (be m n) ≡ be w n) e (low_last (8 - w) w n)
 
 -- Text
-
--- four bytes one by one
-pub four_bytes : (l t : List ℕ) (i j : ℕ) → j + 4 ≤ length t → set (set (set (set l i (get_or t j 0)) (i + 1) (get_or t (j + 1) 0)) (i + 2) (get_or t (j + 2) 0)) (i + 3) (get_or t (j + 3) 0) ≡ sets l i (take 4 (drop j t))
-four_bytes l t i j h =
-    simp unary_clauses (rw (drop-cons t j 0 (omega arith), drop-cons t (suc j) 0 (omega arith), drop-cons t (suc (suc j)) 0 (omega arith), drop-cons t (suc (suc (suc j))) 0 (omega arith)))
 
 -- a run that is stored again, and more behind it
 again : (l y : List ℕ) (i a b : ℕ) → a ≤ b → sets (sets l i (take a y)) i (take b y) ≡ sets l i (take b y)
@@ -108,16 +81,6 @@ both_ends l t i j n w h g =
     let b : j + n - w ≡ j + (n - w) = omega arith in
     let c : n - w + w ≡ n = omega arith in
     rw (a, b, ← drop-drop (n - w) j t) (overlap l (drop j t) i (n - w) w w (omega arith) (omega arith) ∙ rw c)
-
--- A head: a code, and two numbers
-
-pub length_head : (h : Head) → length (head_is h) ≡ 1 + h.width + h.count_width
-length_head h = simp (length-append, length_be) (omega arith)
-
-pub head_put : (l : List ℕ) (at : ℕ) (h : Head) → sets (sets (set l at h.code) (at + 1) (be h.width h.number)) (at + 1 + h.width) (be h.count_width h.count) ≡ sets l at (head_is h)
-head_put l at h =
-    let e : at + 1 ≡ suc at = omega arith in
-    rw e (sym (sets_append (set l at h.code) (suc at) (be h.width h.number) (be h.count_width h.count) ∙ rw length_be))
 
 -- Marks, which stand within the first n bytes
 

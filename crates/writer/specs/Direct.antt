@@ -1,12 +1,10 @@
--- Rows that are written by their kind at once, without a style: `number_front`, `compound_front` and `letters_front` of
--- proofs/Direct.antt say that this is all of them.
-use Rattle.std.specs.Prelude.{ℕ, ◌≡◌, List, [], ◌∷◌, ◌++◌, Bool, true, false, eqb, ltb, length, take}
+-- Rows that are written by their kind at once, without a style, and what a store promises.
+use Rattle.std.specs.Prelude.{ℕ, ◌≡◌, List, ◌∷◌, ◌++◌, Bool, true, false, ltb, length, take}
 use Rattle.std.proofs.lemmas.List.Edits.{sets}
 use Rattle.standard.specs.Choose.{if}
 use Rattle.standard.specs.Bytes.{be}
 use Rattle.standard.specs.Kinds.{Style, foreign, numbered, blob, lettered, listed, mapped, arrayed, describing}
 use Rattle.standard.specs.Encode.{short_end}
-use Rattle.writer.specs.Heads.{head}
 
 abbrev pub is_number : Style → Bool
 is_number foreign = false
@@ -48,21 +46,9 @@ is_arrayed (mapped s) = false
 is_arrayed (arrayed s) = true
 is_arrayed describing = false
 
--- the head of a number; nothing of other rows
-unfoldable pub number_head : Style → (kind number : ℕ) → List ℕ
-number_head s k n = if (is_number s) (head s k n 0) []
-
--- the head of a list or a map that is not empty; nothing of other rows
-unfoldable pub compound_head : Style → (kind count body : ℕ) → List ℕ
-compound_head s k n b = if (eqb n 0) [] (if (is_list_or_map s) (head s k n b) [])
-
 -- n bytes of text behind their number
 unfoldable pub spelled : (short wide number : ℕ) → (text : List ℕ) → List ℕ
 spelled s k n x = if (ltb n short_end) (s ∷ be 1 n) (k ∷ be 4 n) ++ take n x
-
--- letters behind their number; nothing of other rows
-unfoldable pub letters_row : Style → (kind number : ℕ) → (text : List ℕ) → List ℕ
-letters_row s k n x = if (is_lettered s) (head s k n 0 ++ take n x) []
 
 -- bytes are stored at a place, and r is how many
 pub record Put (bytes before : List ℕ) (at : ℕ) (after : List ℕ) (r : ℕ) : Type 0 where

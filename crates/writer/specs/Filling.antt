@@ -3,7 +3,7 @@ use Rattle.std.specs.Prelude.{ℕ, ◌+◌, ◌*◌, ◌%◌, ◌≤◌, ◌<◌
 use Rattle.std.proofs.lemmas.List.Edits.{sets}
 use Rattle.standard.specs.Bytes.{unbe}
 use Rattle.standard.specs.Tree.{Tree, Trees, none, more, rows, rows*, text, text*, tall*}
-use Rattle.standard.specs.Kinds.{style_of, member}
+use Rattle.standard.specs.Kinds.{style_of, is_kind, member}
 use Rattle.standard.specs.Table.{most, any, like, letters, All, Valid}
 use Rattle.standard.specs.Encode.{encode, encode*, payloads}
 use Rattle.writer.specs.Heads.{Mode, values, elements, head_in}
@@ -46,8 +46,9 @@ mark_at w c = mark_width (style_of (kind_at w c)) (number_at w c)
 abbrev pub own_at : Mode → (words text out : List ℕ) → Cursor → List ℕ
 own_at m w x o c = head_in m (style_of (kind_at w c)) (kind_at w c % 256) (number_at w c) (unbe (take (mark_at w c) (drop c.mark o))) ++ take (letters_at w c) (drop c.text x)
 
--- Before it: there is one, with room for its bytes, its text and its mark
+-- Before it: there is one, of a kind, with room for its bytes, its text and its mark
 pub record Ready (m : Mode) (words text out : List ℕ) (c : Cursor) : Type 0 where
+  pub known : is_kind (style_of (kind_at words c)) ≡ true
   pub row : 2 * c.row + 2 ≤ length words
   pub room : c.at + length (own_at m words text out c) ≤ length out
   pub marked : c.mark + mark_at words c ≤ length out

@@ -7,7 +7,8 @@ use Rattle.standard.specs.Tree.{Tree, Trees}
 use Rattle.standard.specs.Kinds.{Style, foreign, numbered, blob, lettered, listed, mapped, arrayed, describing, count_in, kind_in}
 use Rattle.standard.specs.Table.{Spot, any, like, spot_in}
 use Rattle.standard.specs.Encode.{short_end, shortest, encode, encode*, item, payloads}
-use Rattle.writer.specs.declared.head.Head.{Head}
+pub use Rattle.writer.specs.declared.head.Mode.{Mode}
+pub use Rattle.writer.specs.declared.head.Mode.TheVariants.{Values as values, Elements as elements}
 
 -- code, size and count before a body of so many bytes
 unfoldable pub enclosure : (short wide count body : ℕ) → List ℕ
@@ -61,20 +62,7 @@ body_of (mapped s) cs = encode* cs
 body_of (arrayed s) cs = payloads cs
 body_of describing cs = encode* cs
 
--- a code and up to two numbers, with their widths
-abbrev pub fields : (code width number countWidth count : ℕ) → List ℕ
-fields c w x v y = c ∷ be w x ++ be v y
-
-abbrev pub head_is : Head → List ℕ
-head_is h = fields h.code h.width h.number h.count_width h.count
-
--- Rows are values, with codes of their own, or elements of an array
-pub data Mode : Type 0 where
-  values elements : Mode
-
-abbrev pub mode_is : (isElement : Bool) → Mode
-mode_is true = elements
-mode_is false = values
+-- Rows are values, with codes of their own, or elements of an array (`Mode`)
 
 unfoldable pub mode_of : Spot → Mode
 mode_of any = values

@@ -1,27 +1,27 @@
 -- Marking: how it goes from point to point, and the tables that it is for.
-use Rattle.std.specs.Prelude.{ℕ, ◌+◌, ◌*◌, ◌-◌, ◌/◌, ◌%◌, ◌^◌, ◌≤◌, ◌<◌, ◌≡◌, List, [], ◌∷◌, Bool, true, false, eqb, ltb, length, get_or}
-use mir.Val.{bool_byte}
-use Rattle.std.proofs.lemmas.List.Edits.{sets}
+use Rattle.std.specs.Prelude.{ℕ, ◌+◌, ◌*◌, ◌-◌, ◌%◌, ◌^◌, ◌≤◌, ◌<◌, ◌≡◌, List, Bool, true, eqb, ltb, length, get_or, set, repeat, Option, MatchOption}
 use Rattle.standard.specs.Choose.{if}
 use Rattle.standard.specs.Tree.{Tree, rows}
-use Rattle.standard.specs.Kinds.{Style, style_of, count_in}
+use Rattle.standard.specs.Kinds.{Style, style_of, is_kind, count_in}
 use Rattle.standard.specs.Table.{most, any, letters, Valid}
 use Rattle.standard.specs.Encode.{short_end, encode}
 use Rattle.standard.specs.Outcomes.{level_most}
-use Rattle.writer.specs.Heads.{Mode, values, elements, mode_is, array_width, head_in}
+use Rattle.writer.specs.Heads.{Mode, values, elements, array_width, head_in}
 use Rattle.writer.specs.Marks.{mark_width, marks}
+use Rattle.writer.specs.declared.marking.Open.{Open}
+use Rattle.writer.specs.declared.marking.Stack.{Stack}
 use Rattle.writer.specs.declared.marking.Point.{Point}
 
 -- is a row a list, a map or an array that is not empty: a row with a mark
 abbrev pub boxes : Style → (number : ℕ) → Bool
 boxes s n = ltb 0 (mark_width s n)
 
--- the bytes before children that take so many: those of an array, its elements, stand behind their code
-unfoldable pub box_width : Mode → (array : Bool) → (children : ℕ) → ℕ
-box_width values true b = array_width b
-box_width values false b = if (ltb b short_end) 3 9
-box_width elements true b = 9
-box_width elements false b = 8
+-- the bytes before children that take so many, by what their row is and what they are: those of an array, its elements, stand behind their code
+unfoldable pub box_width : (row inside : Mode) → (children : ℕ) → ℕ
+box_width values elements b = array_width b
+box_width values values b = if (ltb b short_end) 3 9
+box_width elements elements b = 9
+box_width elements values b = 8
 
 -- The row at a point
 
@@ -35,74 +35,77 @@ number_on w c = get_or w (2 * c.row + 1) 0
 abbrev pub bare : Mode → (kind number : ℕ) → ℕ
 bare m k n = length (head_in m (style_of k) (k % 256) n 0) + letters (style_of k) n
 
--- The topmost numbers of a stack: the bytes before a compound, the place of its mark, and how many rows are due behind it and what they are
+-- Stacks
 
--- twice as many, and 1 more for elements
-abbrev pub due : (left : ℕ) → (elements : Bool) → ℕ
-due n b = 2 * n + bool_byte b
+abbrev pub none_open : Open
+none_open = record { size = 0; mark = 0; left = 0; mode = values }
 
-abbrev pub start_on : (stack : List ℕ) → (top : ℕ) → ℕ
-start_on st t = get_or st (t - 3) 0
+-- with nothing on it
+abbrev pub emptied : Stack
+emptied = record { open = repeat level_most none_open; top = 0 }
 
-abbrev pub place_on : (stack : List ℕ) → (top : ℕ) → ℕ
-place_on st t = get_or st (t - 3 + 1) 0
+abbrev pub pushed : Stack → Open → Stack
+pushed s e = record { open = set s.open s.top e; top = s.top + 1 }
 
-abbrev pub left_on : (stack : List ℕ) → (top : ℕ) → ℕ
-left_on st t = get_or st (t - 3 + 2) 0 / 2
+-- the last of them
+abbrev pub last_open : Stack → Open
+last_open s = get_or s.open (s.top - 1) none_open
 
-abbrev pub elements_on : (stack : List ℕ) → (top : ℕ) → Bool
-elements_on st t = eqb (get_or st (t - 3 + 2) 0 % 2) 1
+abbrev pub popped : Stack → Stack
+popped s = record { open = s.open; top = s.top - 1 }
+
+abbrev pub Popped : (before after : Stack) → Option Open → Type 0
+Popped s t r = MatchOption r (λ e. (0 < s.top) × (e ≡ last_open s) × (t ≡ popped s)) ((s.top ≡ 0) × (t ≡ s))
 
 -- Points
 
 -- at the first row of a table
 abbrev pub from_start : (mark : ℕ) → Point
-from_start m = record { row = 0; size = 0; mark = m; left = 1; elements = false; top = 0 }
+from_start m = record { row = 0; size = 0; mark = m; left = 1; mode = values }
 
 -- behind a row without a mark, of so many bytes before its children
 abbrev pub beyond : Point → (size children : ℕ) → Point
-beyond c z n = record { row = c.row + 1; size = c.size + z; mark = c.mark; left = c.left - 1 + n; elements = c.elements; top = c.top }
+beyond c z n = record { row = c.row + 1; size = c.size + z; mark = c.mark; left = c.left - 1 + n; mode = c.mode }
 
--- at the first of so many children of a list, a map or an array
+-- what the children of a list, a map or an array are
+abbrev pub mode_in : (kind : ℕ) → Mode
+mode_in k = if (eqb k 0xf0) elements values
+
+-- at the first of so many children of one, and what is on the stack for it
 abbrev pub entered : Point → (kind count : ℕ) → Point
-entered c k n = record { row = c.row + 1; size = c.size; mark = c.mark + 3; left = n; elements = eqb k 0xf0; top = c.top + 3 }
+entered c k n = record { row = c.row + 1; size = c.size; mark = c.mark + 3; left = n; mode = mode_in k }
+
+abbrev pub opened : Point → Open
+opened c = record { size = c.size; mark = c.mark; left = c.left - 1; mode = c.mode }
 
 -- behind a compound whose children are taken
-abbrev pub closed : (stack : List ℕ) → Point → Point
-closed st c = record {
-  row = c.row;
-  size = c.size + box_width (mode_is (elements_on st c.top)) c.elements (c.size - start_on st c.top);
-  mark = c.mark;
-  left = left_on st c.top;
-  elements = elements_on st c.top;
-  top = c.top - 3;
-}
+abbrev pub closed : Open → Point → Point
+closed e c = record { row = c.row; size = c.size + box_width e.mode c.mode (c.size - e.size); mark = c.mark; left = e.left; mode = e.mode }
 
 -- behind a row of that kind and number, or at its first child; and the stack there
 abbrev pub taken : Point → (kind number : ℕ) → Point
-taken c k n = if (boxes (style_of k) n) (entered c k (count_in n)) (beyond c (bare (mode_is c.elements) k n) (if (eqb k 0) 2 0))
+taken c k n = if (boxes (style_of k) n) (entered c k (count_in n)) (beyond c (bare c.mode k n) (if (eqb k 0) 2 0))
 
-abbrev pub stacked : (stack : List ℕ) → Point → (kind number : ℕ) → List ℕ
-stacked st c k n = if (boxes (style_of k) n) (sets st c.top (c.size ∷ c.mark ∷ due (c.left - 1) c.elements ∷ [])) st
+abbrev pub stacked : Stack → Point → (kind number : ℕ) → Stack
+stacked s c k n = if (boxes (style_of k) n) (pushed s (opened c)) s
 
--- A row is due, it is no described value among elements, its numbers have room on the stack and fit 32 bits there, and its sums fit
-pub record Ready (words : List ℕ) (c : Point) : Type 0 where
+-- A row of a kind is due, it is no described value among elements, it has room on the stack and its numbers fit 32 bits there, and its sums fit
+pub record Ready (words : List ℕ) (s : Stack) (c : Point) : Type 0 where
   pub here : 2 * c.row + 2 ≤ length words
+  pub known : is_kind (style_of (kind_on words c)) ≡ true
   pub some : 0 < c.left
-  pub fits : c.elements ≡ true → ¬ (kind_on words c ≡ 0)
-  pub room : c.top + 3 ≤ 3 * level_most
+  pub fits : c.mode ≡ elements → ¬ (kind_on words c ≡ 0)
+  pub room : s.top < level_most
+  pub long : length s.open ≡ level_most
   pub small : c.size + letters (style_of (kind_on words c)) (number_on words c) ≤ most
   pub row : c.row + 1 < 2 ^ 64
   pub mark : c.mark + 3 < 2 ^ 32
   pub left : c.left < 2 ^ 31
 
--- No row is due, the numbers of a compound are on the stack, and its mark has its place
-pub record Complete (stack out : List ℕ) (c : Point) : Type 0 where
-  pub high : 3 ≤ c.top
-  pub deep : c.top ≤ 3 * level_most
-  pub start : start_on stack c.top ≤ c.size
-  pub place : place_on stack c.top + 3 ≤ length out
-  pub left : left_on stack c.top < 2 ^ 31
+-- No row is due, and the mark of the compound that ends has its place
+pub record Complete (e : Open) (out : List ℕ) (c : Point) : Type 0 where
+  pub start : e.size ≤ c.size
+  pub place : e.mark + 3 ≤ length out
   pub small : c.size ≤ most
 
 -- A table whose marks have room from m on, and end within the longest table's bytes

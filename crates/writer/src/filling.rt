@@ -4,18 +4,16 @@ ghost use Rattle.std.proofs.lemmas.List.Edits.{sets};
 ghost use Rattle.standard.specs.Choose.{if};
 ghost use Rattle.standard.specs.Bytes.{unbe};
 ghost use Rattle.standard.specs.Kinds.{style_of};
-ghost use Rattle.standard.specs.InCode.{style_is};
+ghost use Rattle.standard.specs.InCode.{kind_is};
 ghost use Rattle.standard.specs.Tree.{Tree, Trees, none};
 ghost use Rattle.standard.specs.Encode.{encode};
-ghost use Rattle.writer.specs.Heads.{enclosure, array_fields, head_is, values, elements, mode_is};
-ghost use Rattle.writer.specs.Marks.{mark_width};
-ghost use Rattle.writer.specs.Direct.{is_arrayed, is_list_or_map, compound_head, Put};
+ghost use Rattle.writer.specs.Heads.{head, array_fields, values, elements};
+ghost use Rattle.writer.specs.Direct.{is_arrayed, is_list_or_map, Put};
 ghost use Rattle.writer.specs.Filling.{fresh, behind, kind_at, mark_at, Ready, Stepped, Filled, One, Done, Elements, Rows, Run, SomeLeft, Fillable};
 
-use crate::head::Head;
+use crate::head::Mode;
 use crate::{head, put};
-use standard::format_code::{Compound8, Compound32};
-use standard::kind::Style;
+use standard::kind::Kind;
 use standard::{format_code, kind};
 
 // The next row and its text, where it is written, and the next mark.
@@ -53,24 +51,8 @@ impl Cursor {
     }
 }
 
-// The width of a row's mark: compounds that are not empty have one.
-pub(crate) fn mark_width(style: Style, number: u64) -> usize
-    ensures { result ≡ mark_width (style_is style) number }
-{
-    match style {
-        Style::Foreign => 0,
-        Style::Numbered(_, _) => 0,
-        Style::Blob(_) => 0,
-        Style::Lettered(_) => 0,
-        Style::Listed(_, _) => count_mark(number),
-        Style::Mapped(_) => count_mark(number),
-        Style::Arrayed(_) => count_mark(number % kind::KIND_UNIT),
-        Style::Describing => 0,
-    }
-}
-
-// The width of the mark of a list, a map or an array with so many children.
-fn count_mark(count: u64) -> usize
+// The width of the mark of a list, a map or an array with so many children: none has no mark.
+fn mark_width(count: u64) -> usize
     ensures { result ≡ if (eqb count 0) 0 3 }
 {
     if count == 0 {
@@ -79,14 +61,11 @@ fn count_mark(count: u64) -> usize
     head::MARK_WIDTH
 }
 
-// The number in a mark; 0 where there is none.
-fn mark_at(out: &[u8], at: usize, width: usize) -> usize
-    requires { (at + width ≤ length out.now) × ((width ≡ 0 → ⊥) → width ≡ 3) }
-    ensures { (result ≡ unbe (take width (drop at out.now))) × (result < 2 ^ 24) }
+// The number in a mark.
+fn mark_at(out: &[u8], at: usize) -> usize
+    requires { at + 3 ≤ length out.now }
+    ensures { (result ≡ unbe (take 3 (drop at out.now))) × (result < 2 ^ 24) }
 {
-    if width == 0 {
-        return 0;
-    }
     let high = byte(out[at]);
     let middle = byte(out[at + 1]);
     let low = byte(out[at + 2]);
@@ -99,111 +78,68 @@ fn byte(x: u8) -> usize
     x as usize
 }
 
-fn put_head(out: &mut [u8], at: usize, h: Head)
-    requires { at + length (head_is h) ≤ length out.old }
-    ensures { out.new ≡ sets out.old at (head_is h) }
-{
-    out[at] = h.code;
-    put::put_be(out, at + 1, h.width, h.number);
-    put::put_be(out, at + 1 + h.width, h.count_width, h.count);
-}
-
-// A row that is a value of its own, of any style but an array's: its head and its text.
-fn put_styled(words: &[u64], text: &[u8], out: &mut [u8], c: Cursor) -> Cursor
-    requires { Ready values words.now text.now out.old c × (is_arrayed (style_of (kind_at words.now c)) ≡ false) }
-    ensures { Stepped values words.now text.now out.old c out.new result }
-{
-    let k = 2 * c.row;
-    let kind = words[k];
-    let number = words[k + 1];
-    let style = kind::style_of(kind);
-    let letters = style.letters(number) as usize;
-    let width = mark_width(style, number);
-    let body = mark_at(out, c.mark, width);
-    let h = head::head_of(style, kind, number, body);
-    put_head(out, c.at, h);
-    let size = 1 + h.width + h.count_width;
-    put::put_text(out, c.at + size, text, c.text, letters);
-    c.behind(size + letters, letters, width)
-}
-
-// What stands before a body of so many bytes.
-fn put_enclosure(out: &mut [u8], at: usize, short: u8, code: u8, count: u64, body: u64) -> usize
-    requires { (body + 4 < 2 ^ 64) × (at + length (enclosure short code count body) ≤ length out.old) }
-    ensures { Put (enclosure short code count body) out.old at out.new result }
-{
-    if body < head::SHORT_END {
-        return put::put_sized(out, at, short, Compound8::COUNT_WIDTH, body, count);
-    }
-    put::put_sized(out, at, code, Compound32::COUNT_WIDTH, body, count)
-}
-
-// The same of a body whose size is in a mark.
-fn put_marked(out: &mut [u8], at: usize, short: u8, code: u8, count: u64, mark: usize) -> usize
-    requires { (mark + 3 ≤ length out.old) × (at + length (enclosure short code count (unbe (take 3 (drop mark out.old)))) ≤ length out.old) }
-    ensures { Put (enclosure short code count (unbe (take 3 (drop mark out.old)))) out.old at out.new result }
-{
-    let body = mark_at(out, mark, head::MARK_WIDTH) as u64;
-    put_enclosure(out, at, short, code, count, body)
-}
-
-// The head of a list or a map that is not empty; nothing for other rows.
-fn put_compound(out: &mut [u8], at: usize, kind: u64, count: u64, mark: usize) -> usize
-    requires { (mark + mark_width (style_of kind) count ≤ length out.old)
-        × (at + length (compound_head (style_of kind) (kind % 256) count (unbe (take 3 (drop mark out.old)))) ≤ length out.old) }
-    ensures { Put (compound_head (style_of kind) (kind % 256) count (unbe (take 3 (drop mark out.old)))) out.old at out.new result }
+// The bytes that so many children take, by their mark.
+fn body_at(out: &[u8], mark: usize, count: u64) -> usize
+    requires { mark + if (eqb count 0) 0 3 ≤ length out.now }
+    ensures { (result ≡ unbe (take (if (eqb count 0) 0 3) (drop mark out.now))) × (result < 2 ^ 24) }
 {
     if count == 0 {
         return 0;
     }
+    mark_at(out, mark)
+}
+
+// The head of a list or a map whose mark is at `mark`.
+fn put_compound(out: &mut [u8], at: usize, kind: Kind, count: u64, mark: usize) -> usize
+    requires { (is_list_or_map (style_of (kind_is kind)) ≡ true) × (mark + if (eqb count 0) 0 3 ≤ length out.old)
+        × (at + length (head (style_of (kind_is kind)) (kind_is kind % 256) count (unbe (take (if (eqb count 0) 0 3) (drop mark out.old)))) ≤ length out.old) }
+    ensures { Put (head (style_of (kind_is kind)) (kind_is kind % 256) count (unbe (take (if (eqb count 0) 0 3) (drop mark out.old)))) out.old at out.new result }
+{
+    let body = body_at(out, mark, count) as u64;
     match kind {
-        0xd0 => put_marked(
-            out,
-            at,
-            format_code::LIST_8,
-            format_code::LIST_32,
-            count,
-            mark,
-        ),
-        0xd1 => put_marked(
-            out,
-            at,
-            format_code::MAP_8,
-            format_code::MAP_32,
-            count,
-            mark,
-        ),
-        _ => 0,
+        Kind::List if count == 0 => put::put_code(out, at, format_code::LIST_0),
+        Kind::List => {
+            let (short, code) = (format_code::LIST_8, format_code::LIST_32);
+            put::put_enclosure(out, at, short, code, count, body)
+        }
+        Kind::Map => {
+            let (short, code) = (format_code::MAP_8, format_code::MAP_32);
+            put::put_enclosure(out, at, short, code, count, body)
+        }
+        _ => unreachable!(),
     }
 }
 
-// A row that is a value of its own, but no array. Numbers, letters, lists and maps that are not empty, and described values go by
-// their kind at once, which is faster than by a style: they are most rows.
+// A row that is a value of its own, but no array. It goes by its kind at once, which is faster than by a style.
 fn put_value(words: &[u64], text: &[u8], out: &mut [u8], c: Cursor) -> Cursor
     requires { Ready values words.now text.now out.old c × (is_arrayed (style_of (kind_at words.now c)) ≡ false) }
     ensures { Stepped values words.now text.now out.old c out.new result }
 {
-    let k = 2 * c.row;
-    let kind = words[k];
-    let number = words[k + 1];
-    let at = c.at;
-    let size = put::put_number(out, at, kind, number);
-    if 0 < size {
-        return c.behind(size, 0, 0);
+    let kind = head::known_kind(words[2 * c.row]);
+    let number = words[2 * c.row + 1];
+    match kind {
+        Kind::Described => {
+            let size = put::put_code(out, c.at, format_code::DESCRIBED);
+            c.behind(size, 0, 0)
+        }
+        Kind::Binary | Kind::String | Kind::Symbol => {
+            let size = put::put_letters(out, c.at, kind, number, text, c.text);
+            c.behind(size, number as usize, 0)
+        }
+        Kind::Decimal128 | Kind::Uuid => {
+            let size = put::put_blob(out, c.at, kind as u8, text, c.text);
+            c.behind(size, 16, 0)
+        }
+        Kind::List | Kind::Map => {
+            let size = put_compound(out, c.at, kind, number, c.mark);
+            c.behind(size, 0, mark_width(number))
+        }
+        Kind::Array => unreachable!(),
+        _ => {
+            let size = put::put_number(out, c.at, kind, number);
+            c.behind(size, 0, 0)
+        }
     }
-    let size = put_compound(out, at, kind, number, c.mark);
-    if 0 < size {
-        return c.behind(size, 0, head::MARK_WIDTH);
-    }
-    let size = put::put_letters(out, at, kind, number, text, c.text);
-    if 0 < size {
-        return c.behind(size, number as usize, 0);
-    }
-    if kind == 0x00 {
-        out[at] = format_code::DESCRIBED;
-        return c.behind(1, 0, 0);
-    }
-    put_styled(words, text, out, c)
 }
 
 // A row that is an element and no list, map or array: its number in full width, and its text.
@@ -211,12 +147,10 @@ fn put_item(words: &[u64], text: &[u8], out: &mut [u8], c: Cursor) -> Cursor
     requires { Ready elements words.now text.now out.old c × (is_list_or_map (style_of (kind_at words.now c)) ≡ false) × (is_arrayed (style_of (kind_at words.now c)) ≡ false) }
     ensures { Stepped elements words.now text.now out.old c out.new result }
 {
-    let k = 2 * c.row;
-    let kind = words[k];
-    let number = words[k + 1];
-    let style = kind::style_of(kind);
-    let letters = style.letters(number) as usize;
-    let width = head::item_width(style);
+    let kind = head::known_kind(words[2 * c.row]);
+    let number = words[2 * c.row + 1];
+    let letters = kind.style().letters(number) as usize;
+    let width = head::item_width(kind);
     put::put_be(out, c.at, width, number);
     put::put_text(out, c.at + width, text, c.text, letters);
     c.behind(width + letters, letters, 0)
@@ -231,26 +165,24 @@ fn put_nested(words: &[u64], text: &[u8], out: &mut [u8], body: usize, c: Cursor
 {
     let count = words[2 * c.row + 1];
     put::put_fields(out, c.at, body as u64, count);
-    c.behind(head::ITEM_WIDTH, 0, count_mark(count))
+    c.behind(head::ITEM_WIDTH, 0, mark_width(count))
 }
 
 // What stands before the code of an array's elements, with a body of so many bytes. The array is a value or an element itself.
-fn put_array_fields(out: &mut [u8], at: usize, nested: bool, count: u64, body: u64) -> usize
-    requires { (body + 4 < 2 ^ 64) × (at + length (array_fields (mode_is nested) count body) ≤ length out.old) }
-    ensures { Put (array_fields (mode_is nested) count body) out.old at out.new result }
+fn put_array_fields(out: &mut [u8], at: usize, mode: Mode, count: u64, body: u64) -> usize
+    requires { (body + 4 < 2 ^ 64) × (at + length (array_fields mode count body) ≤ length out.old) }
+    ensures { Put (array_fields mode count body) out.old at out.new result }
 {
-    if nested {
-        put::put_fields(out, at, body, count);
-        return head::ITEM_WIDTH;
+    match mode {
+        Mode::Values => {
+            let (short, code) = (format_code::ARRAY_8, format_code::ARRAY_32);
+            put::put_enclosure(out, at, short, code, count, body)
+        }
+        Mode::Elements => {
+            put::put_fields(out, at, body, count);
+            head::ITEM_WIDTH
+        }
     }
-    put_enclosure(
-        out,
-        at,
-        format_code::ARRAY_8,
-        format_code::ARRAY_32,
-        count,
-        body,
-    )
 }
 
 // The head of an array whose elements take so many bytes: it ends in their code.
@@ -258,20 +190,21 @@ fn put_array(
     words: &[u64],
     text: &[u8],
     out: &mut [u8],
-    nested: bool,
+    mode: Mode,
     elements: usize,
     c: Cursor,
 ) -> Cursor
-    requires { Ready (mode_is nested) words.now text.now out.old c × (kind_at words.now c ≡ 0xf0)
+    requires { Ready mode words.now text.now out.old c × (kind_at words.now c ≡ 0xf0)
         × (elements ≡ unbe (take (mark_at words.now c) (drop c.mark out.old))) × (elements < 2 ^ 24) }
-    ensures { Stepped (mode_is nested) words.now text.now out.old c out.new result }
+    ensures { Stepped mode words.now text.now out.old c out.new result }
 {
     let number = words[2 * c.row + 1];
-    let count = number % kind::KIND_UNIT;
+    let count = kind::count_of_elements(number);
+    let told = kind::kind_of_elements(number).unwrap();
     let at = c.at;
-    let size = put_array_fields(out, at, nested, count, 1 + elements as u64);
-    out[at + size] = (number / kind::KIND_UNIT % 256) as u8;
-    c.behind(size + 1, 0, count_mark(count))
+    let size = put_array_fields(out, at, mode, count, 1 + elements as u64);
+    out[at + size] = told as u8;
+    c.behind(size + 1, 0, mark_width(count))
 }
 
 // The values up to `last`, or up to the first that is an array.
@@ -281,7 +214,7 @@ fn fill_values(words: &[u64], text: &[u8], out: &mut [u8], last: usize, start: C
 {
     let mut c = start;
     while c.at < last {
-        if words[2 * c.row] == 0xf0 {
+        if words[2 * c.row] == Kind::Array as u64 {
             return c;
         }
         c = put_value(words, text, out, c);
@@ -316,30 +249,30 @@ fn fill_items(
     words: &[u64],
     text: &[u8],
     out: &mut [u8],
-    told: u64,
+    told: Kind,
     end: usize,
     c: Cursor,
 ) -> Cursor
-    requires { (vs : Trees) × Elements words.now text.now out.old end c told vs }
-    ensures { (vs : Trees) → Elements words.now text.now out.old end c told vs → Filled out.old c none vs out.new result }
+    requires { (vs : Trees) × Elements words.now text.now out.old end c (kind_is told) vs }
+    ensures { (vs : Trees) → Elements words.now text.now out.old end c (kind_is told) vs → Filled out.old c none vs out.new result }
 {
-    if told < 0xd0 {
-        return fill_plain(words, text, out, end, c);
+    match told {
+        Kind::List | Kind::Map | Kind::Array => fill_rows(words, text, out, end, c.at, c),
+        _ => fill_plain(words, text, out, end, c),
     }
-    fill_rows(words, text, out, end, c.at, c)
 }
 
 // An array, which is a value or an element itself: its head, and its elements.
 #[cycle(fill_array_fill_items_fill_rows)]
-fn fill_array(words: &[u64], text: &[u8], out: &mut [u8], nested: bool, c: Cursor) -> Cursor
-    requires { (kind_at words.now c ≡ 0xf0) × ((k : ℕ) × (v : Tree) × One words.now text.now out.old (mode_is nested) c k v) }
-    ensures { (k : ℕ) (v : Tree) → One words.now text.now out.old (mode_is nested) c k v → Done out.old (mode_is nested) c v out.new result }
+fn fill_array(words: &[u64], text: &[u8], out: &mut [u8], mode: Mode, c: Cursor) -> Cursor
+    requires { (kind_at words.now c ≡ 0xf0) × ((k : ℕ) × (v : Tree) × One words.now text.now out.old mode c k v) }
+    ensures { (k : ℕ) (v : Tree) → One words.now text.now out.old mode c k v → Done out.old mode c v out.new result }
 {
     let number = words[2 * c.row + 1];
-    let elements = mark_at(out, c.mark, count_mark(number % kind::KIND_UNIT));
-    let first = put_array(words, text, out, nested, elements, c);
-    let end = first.at + elements;
-    fill_items(words, text, out, number / kind::KIND_UNIT, end, first)
+    let told = kind::kind_of_elements(number).unwrap();
+    let elements = body_at(out, c.mark, kind::count_of_elements(number));
+    let first = put_array(words, text, out, mode, elements, c);
+    fill_items(words, text, out, told, first.at + elements, first)
 }
 
 // The rows up to `end`: values up to `first`, and behind them elements, each a list, a map or an array.
@@ -358,15 +291,22 @@ fn fill_rows(
     let mut c = start;
     let mut last = first;
     while c.at < end {
-        let nested = last <= c.at;
-        if words[2 * c.row] == 0xf0 {
-            c = fill_array(words, text, out, nested, c);
-        } else if nested {
-            let body = mark_at(out, c.mark, count_mark(words[2 * c.row + 1]));
-            c = put_nested(words, text, out, body, c);
-            last = c.at + body;
+        let mode = if last <= c.at {
+            Mode::Elements
         } else {
-            c = fill_run(words, text, out, last, c);
+            Mode::Values
+        };
+        if words[2 * c.row] == Kind::Array as u64 {
+            c = fill_array(words, text, out, mode, c);
+            continue;
+        }
+        match mode {
+            Mode::Values => c = fill_run(words, text, out, last, c),
+            Mode::Elements => {
+                let body = body_at(out, c.mark, words[2 * c.row + 1]);
+                c = put_nested(words, text, out, body, c);
+                last = c.at + body;
+            }
         }
     }
     c

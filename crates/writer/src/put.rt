@@ -1,22 +1,25 @@
 // Stores into the output: big-endian numbers, runs of text, and what begins with a format code.
-ghost use Rattle.std.specs.Prelude.{◌≡◌, [], ◌∷◌, ◌++◌, ◌+◌, ◌%◌, ◌^◌, ◌≤◌, ◌<◌, eqb, length, take, drop};
+ghost use Rattle.std.specs.Prelude.{◌≡◌, true, [], ◌∷◌, ◌++◌, ◌+◌, ◌%◌, ◌^◌, ◌≤◌, ◌<◌, eqb, length, take, drop};
 ghost use Rattle.std.proofs.lemmas.List.Edits.{sets};
 ghost use Rattle.standard.specs.Choose.{if};
 ghost use Rattle.standard.specs.Bytes.{be};
 ghost use Rattle.standard.specs.Kinds.{unsigned, signed, style_of};
-ghost use Rattle.standard.specs.Table.{letters};
 ghost use Rattle.standard.specs.Encode.{shortest};
-ghost use Rattle.writer.specs.Direct.{number_head, spelled, letters_row, Put};
+ghost use Rattle.standard.specs.InCode.{kind_is};
+ghost use Rattle.writer.specs.Heads.{enclosure, head};
+ghost use Rattle.writer.specs.Direct.{is_number, is_lettered, spelled, Put};
 
 use crate::head;
+use standard::format_code::{Compound8, Compound32};
+use standard::kind::Kind;
 use standard::{format_code, kind};
 
-fn put_two(out: &mut [u8], at: usize, number: u64)
-    requires { at + 2 ≤ length out.old }
-    ensures { out.new ≡ sets out.old at (be 2 number) }
+// The low N bytes of a number: one store, where a width that is known only as the program runs would take a call.
+fn put_low<const N: usize>(out: &mut [u8], at: usize, number: u64)
+    requires { (N ≤ 8) × (at + N ≤ length out.old) }
+    ensures { out.new ≡ sets out.old at (be N number) }
 {
-    out[at] = (number / 0x100 % 256) as u8;
-    out[at + 1] = (number % 256) as u8;
+    out[at..at + N].copy_from_slice(&number.to_be_bytes()[8 - N..]);
 }
 
 // A mark.
@@ -24,140 +27,95 @@ pub(crate) fn put_three(out: &mut [u8], at: usize, number: u64)
     requires { at + 3 ≤ length out.old }
     ensures { out.new ≡ sets out.old at (be 3 number) }
 {
-    out[at] = (number / 0x1_0000 % 256) as u8;
-    out[at + 1] = (number / 0x100 % 256) as u8;
-    out[at + 2] = (number % 256) as u8;
+    put_low::<3>(out, at, number);
 }
 
-fn put_four(out: &mut [u8], at: usize, number: u64)
-    requires { at + 4 ≤ length out.old }
-    ensures { out.new ≡ sets out.old at (be 4 number) }
-{
-    out[at] = (number / 0x100_0000 % 256) as u8;
-    out[at + 1] = (number / 0x1_0000 % 256) as u8;
-    out[at + 2] = (number / 0x100 % 256) as u8;
-    out[at + 3] = (number % 256) as u8;
-}
-
-fn put_eight(out: &mut [u8], at: usize, number: u64)
-    requires { at + 8 ≤ length out.old }
-    ensures { out.new ≡ sets out.old at (be 8 number) }
-{
-    out[at] = (number / 0x100_0000_0000_0000 % 256) as u8;
-    out[at + 1] = (number / 0x1_0000_0000_0000 % 256) as u8;
-    out[at + 2] = (number / 0x100_0000_0000 % 256) as u8;
-    out[at + 3] = (number / 0x1_0000_0000 % 256) as u8;
-    out[at + 4] = (number / 0x100_0000 % 256) as u8;
-    out[at + 5] = (number / 0x1_0000 % 256) as u8;
-    out[at + 6] = (number / 0x100 % 256) as u8;
-    out[at + 7] = (number % 256) as u8;
-}
-
-// The low bytes of a number, as many as its width, from the last to the first.
-fn put_wide(out: &mut [u8], at: usize, width: usize, number: u64)
-    requires { at + width ≤ length out.old }
-    ensures { out.new ≡ sets out.old at (be width number) }
-{
-    let mut left = width;
-    let mut rest = number;
-    while 0 < left {
-        left -= 1;
-        out[at + left] = (rest % 256) as u8;
-        rest = rest / 256;
-    }
-}
-
-// The low bytes of a number, as many as its width. The widths of the format are stored in straight line.
+// The low bytes of a number, as many as its width.
 pub(crate) fn put_be(out: &mut [u8], at: usize, width: usize, number: u64)
-    requires { at + width ≤ length out.old }
+    requires { (width ≤ 8) × (at + width ≤ length out.old) }
     ensures { out.new ≡ sets out.old at (be width number) }
 {
-    if width == 1 {
-        out[at] = (number % 256) as u8;
-        return;
+    match width {
+        1 => put_low::<1>(out, at, number),
+        2 => put_low::<2>(out, at, number),
+        4 => put_low::<4>(out, at, number),
+        8 => put_low::<8>(out, at, number),
+        _ => out[at..at + width].copy_from_slice(&number.to_be_bytes()[8 - width..]),
     }
-    if width == 4 {
-        put_four(out, at, number);
-        return;
-    }
-    if width == 8 {
-        put_eight(out, at, number);
-        return;
-    }
-    if width == 2 {
-        put_two(out, at, number);
-        return;
-    }
-    put_wide(out, at, width, number);
 }
 
-// Four bytes of a text from `from` on.
-fn copy_four(out: &mut [u8], at: usize, text: &[u8], from: usize)
-    requires { (at + 4 ≤ length out.old) × (from + 4 ≤ length text.now) }
-    ensures { out.new ≡ sets out.old at (take 4 (drop from text.now)) }
+// N bytes of a text from `from` on.
+fn copy_run<const N: usize>(out: &mut [u8], at: usize, text: &[u8], from: usize)
+    requires { (at + N ≤ length out.old) × (from + N ≤ length text.now) }
+    ensures { out.new ≡ sets out.old at (take N (drop from text.now)) }
 {
-    let a = text[from];
-    let b = text[from + 1];
-    let c = text[from + 2];
-    let d = text[from + 3];
-    out[at] = a;
-    out[at + 1] = b;
-    out[at + 2] = c;
-    out[at + 3] = d;
+    out[at..at + N].copy_from_slice(&text[from..from + N]);
 }
 
-// So many bytes of a text from `from` on, one by one.
-fn copy_all(out: &mut [u8], at: usize, text: &[u8], from: usize, count: usize)
-    requires { (at + count ≤ length out.old) × (from + count ≤ length text.now) }
-    ensures { out.new ≡ sets out.old at (take count (drop from text.now)) }
-{
-    let mut k: usize = 0;
-    while k < count {
-        out[at + k] = text[from + k];
-        k += 1;
-    }
-}
-
-// The same. A short text is two runs of four, which may overlap: the processor would guess the end of a loop wrong.
+// So many bytes of a text from `from` on. A short text is two runs of four, which may overlap: the processor would guess the end of a loop wrong.
 pub(crate) fn put_text(out: &mut [u8], at: usize, text: &[u8], from: usize, count: usize)
     requires { (at + count ≤ length out.old) × (from + count ≤ length text.now) }
     ensures { out.new ≡ sets out.old at (take count (drop from text.now)) }
 {
-    if 4 <= count {
-        if count <= 8 {
-            copy_four(out, at, text, from);
-            copy_four(out, at + count - 4, text, from + count - 4);
-            return;
-        }
+    if 4 <= count && count <= 8 {
+        copy_run::<4>(out, at, text, from);
+        copy_run::<4>(out, at + count - 4, text, from + count - 4);
+        return;
     }
-    copy_all(out, at, text, from, count);
+    out[at..at + count].copy_from_slice(&text[from..from + count]);
 }
 
-// A code, and a number of so many bytes behind it. This and the functions below give the number of bytes that they write.
-fn put_coded(out: &mut [u8], at: usize, code: u8, width: usize, number: u64) -> usize
-    requires { at + length (code ∷ be width number) ≤ length out.old }
-    ensures { Put (code ∷ be width number) out.old at out.new result }
+// A code alone. This and the functions below give the number of bytes that they write.
+pub(crate) fn put_code(out: &mut [u8], at: usize, code: u8) -> usize
+    requires { at + 1 ≤ length out.old }
+    ensures { Put (code ∷ []) out.old at out.new result }
 {
     out[at] = code;
-    put_be(out, at + 1, width, number);
-    1 + width
+    1
 }
 
-// A code, and the size and the count of a body in so many bytes each. The size takes in the bytes of the count.
-pub(crate) fn put_sized(
+// A code, and a number of N bytes behind it.
+fn put_coded<const N: usize>(out: &mut [u8], at: usize, code: u8, number: u64) -> usize
+    requires { (N ≤ 8) × (at + length (code ∷ be N number) ≤ length out.old) }
+    ensures { Put (code ∷ be N number) out.old at out.new result }
+{
+    out[at] = code;
+    put_low::<N>(out, at + 1, number);
+    1 + N
+}
+
+// A code, and the size and the count of a body in N bytes each. The size takes in the bytes of the count.
+fn put_sized<const N: usize>(
     out: &mut [u8],
     at: usize,
     code: u8,
-    width: usize,
     body: u64,
     count: u64,
 ) -> usize
-    requires { (width + body < 2 ^ 64) × (at + length (code ∷ be width (width + body) ++ be width count) ≤ length out.old) }
-    ensures { Put (code ∷ be width (width + body) ++ be width count) out.old at out.new result }
+    requires { (N ≤ 8) × (N + body < 2 ^ 64) × (at + length (code ∷ be N (N + body) ++ be N count) ≤ length out.old) }
+    ensures { Put (code ∷ be N (N + body) ++ be N count) out.old at out.new result }
 {
-    let size = put_coded(out, at, code, width, width as u64 + body);
-    put_be(out, at + size, width, count);
-    size + width
+    let size = put_coded::<N>(out, at, code, N as u64 + body);
+    put_low::<N>(out, at + size, count);
+    size + N
+}
+
+// What stands before a body of so many bytes: the code, the size and the count of a list, a map or an array.
+pub(crate) fn put_enclosure(
+    out: &mut [u8],
+    at: usize,
+    short: u8,
+    code: u8,
+    count: u64,
+    body: u64,
+) -> usize
+    requires { (body + 4 < 2 ^ 64) × (at + length (enclosure short code count body) ≤ length out.old) }
+    ensures { Put (enclosure short code count body) out.old at out.new result }
+{
+    if body < head::SHORT_END {
+        return put_sized::<{ Compound8::COUNT_WIDTH }>(out, at, short, body, count);
+    }
+    put_sized::<{ Compound32::COUNT_WIDTH }>(out, at, code, body, count)
 }
 
 // The size and the count of an element with a body of so many bytes.
@@ -165,8 +123,8 @@ pub(crate) fn put_fields(out: &mut [u8], at: usize, body: u64, count: u64)
     requires { (4 + body < 2 ^ 64) × (at + 8 ≤ length out.old) }
     ensures { out.new ≡ sets out.old at (be 4 (4 + body) ++ be 4 count) }
 {
-    put_four(out, at, 4 + body);
-    put_four(out, at + 4, count);
+    put_low::<4>(out, at, 4 + body);
+    put_low::<4>(out, at + 4, count);
 }
 
 // A boolean: a code for 1, and a code for 0.
@@ -175,59 +133,57 @@ fn put_flag(out: &mut [u8], at: usize, one: u8, zero: u8, number: u64) -> usize
     ensures { Put (if (eqb number 0) (zero ∷ []) (one ∷ [])) out.old at out.new result }
 {
     if number == 0 {
-        return put_coded(out, at, zero, 0, number);
+        return put_code(out, at, zero);
     }
-    put_coded(out, at, one, 0, number)
+    put_code(out, at, one)
 }
 
 // An unsigned number: a code for 0, or a code and a byte, or a code and all bytes.
-fn put_unsigned(
+fn put_unsigned<const N: usize>(
     out: &mut [u8],
     at: usize,
     zero: u8,
     byte: u8,
     code: u8,
-    width: usize,
     number: u64,
 ) -> usize
-    requires { at + length (shortest (unsigned zero byte) width code number) ≤ length out.old }
-    ensures { Put (shortest (unsigned zero byte) width code number) out.old at out.new result }
+    requires { (N ≤ 8) × (at + length (shortest (unsigned zero byte) N code number) ≤ length out.old) }
+    ensures { Put (shortest (unsigned zero byte) N code number) out.old at out.new result }
 {
     if number == 0 {
-        return put_coded(out, at, zero, 0, number);
+        return put_code(out, at, zero);
     }
     if number < 256 {
-        return put_coded(out, at, byte, 1, number);
+        return put_coded::<1>(out, at, byte, number);
     }
-    put_coded(out, at, code, width, number)
+    put_coded::<N>(out, at, code, number)
 }
 
 // A number in two's complement: a code and a byte, or a code and all bytes.
-fn put_signed(out: &mut [u8], at: usize, byte: u8, code: u8, width: usize, number: u64) -> usize
-    requires { at + length (shortest (signed byte) width code number) ≤ length out.old }
-    ensures { Put (shortest (signed byte) width code number) out.old at out.new result }
+fn put_signed<const N: usize>(out: &mut [u8], at: usize, byte: u8, code: u8, number: u64) -> usize
+    requires { (N ≤ 8) × (at + length (shortest (signed byte) N code number) ≤ length out.old) }
+    ensures { Put (shortest (signed byte) N code number) out.old at out.new result }
 {
-    if kind::fits_byte(number, width) {
-        return put_coded(out, at, byte, 1, number);
+    if kind::fits_byte(number, N) {
+        return put_coded::<1>(out, at, byte, number);
     }
-    put_coded(out, at, code, width, number)
+    put_coded::<N>(out, at, code, number)
 }
 
-// A code, the length of a text in so many bytes, and the text, from `from` on.
-fn put_run(
+// A code, the length of a text in N bytes, and the text, from `from` on.
+fn put_run<const N: usize>(
     out: &mut [u8],
     at: usize,
     code: u8,
-    width: usize,
     number: u64,
     text: &[u8],
     from: usize,
 ) -> usize
-    requires { (from + number ≤ length text.now) × (at + length (code ∷ be width number ++ take number (drop from text.now)) ≤ length out.old) }
-    ensures { Put (code ∷ be width number ++ take number (drop from text.now)) out.old at out.new result }
+    requires { (N ≤ 8) × (from + number ≤ length text.now) × (at + length (code ∷ be N number ++ take number (drop from text.now)) ≤ length out.old) }
+    ensures { Put (code ∷ be N number ++ take number (drop from text.now)) out.old at out.new result }
 {
     let count = number as usize;
-    let size = put_coded(out, at, code, width, number);
+    let size = put_coded::<N>(out, at, code, number);
     put_text(out, at + size, text, from, count);
     size + count
 }
@@ -246,78 +202,69 @@ fn put_lettered(
     ensures { Put (spelled short code number (drop from text.now)) out.old at out.new result }
 {
     if number < head::SHORT_END {
-        return put_run(out, at, short, 1, number, text, from);
+        return put_run::<1>(out, at, short, number, text, from);
     }
-    put_run(out, at, code, 4, number, text, from)
+    put_run::<4>(out, at, code, number, text, from)
 }
 
-// A row of letters with its text, from `from` on; nothing for a kind that holds none.
+// A row of letters with its text, from `from` on.
 pub(crate) fn put_letters(
     out: &mut [u8],
     at: usize,
-    kind: u64,
+    kind: Kind,
     number: u64,
     text: &[u8],
     from: usize,
 ) -> usize
-    requires { (from + letters (style_of kind) number ≤ length text.now)
-        × (at + length (letters_row (style_of kind) (kind % 256) number (drop from text.now)) ≤ length out.old) }
-    ensures { Put (letters_row (style_of kind) (kind % 256) number (drop from text.now)) out.old at out.new result }
+    requires { (is_lettered (style_of (kind_is kind)) ≡ true) × (from + number ≤ length text.now)
+        × (at + length (head (style_of (kind_is kind)) (kind_is kind % 256) number 0 ++ take number (drop from text.now)) ≤ length out.old) }
+    ensures { Put (head (style_of (kind_is kind)) (kind_is kind % 256) number 0 ++ take number (drop from text.now)) out.old at out.new result }
 {
-    let code = (kind % 256) as u8;
+    let code = kind as u8;
     match kind {
-        0xb0 => put_lettered(out, at, format_code::BINARY_8, code, number, text, from),
-        0xb1 => put_lettered(out, at, format_code::STRING_8, code, number, text, from),
-        0xb3 => put_lettered(out, at, format_code::SYMBOL_8, code, number, text, from),
-        _ => 0,
+        Kind::Binary => put_lettered(out, at, format_code::BINARY_8, code, number, text, from),
+        Kind::String => put_lettered(out, at, format_code::STRING_8, code, number, text, from),
+        Kind::Symbol => put_lettered(out, at, format_code::SYMBOL_8, code, number, text, from),
+        _ => unreachable!(),
     }
 }
 
-// A number in the shortest form of its kind; nothing for a kind that holds no number.
-pub(crate) fn put_number(out: &mut [u8], at: usize, kind: u64, number: u64) -> usize
-    requires { at + length (number_head (style_of kind) (kind % 256) number) ≤ length out.old }
-    ensures { Put (number_head (style_of kind) (kind % 256) number) out.old at out.new result }
+// 16 bytes of text behind their code.
+pub(crate) fn put_blob(out: &mut [u8], at: usize, code: u8, text: &[u8], from: usize) -> usize
+    requires { (at + 17 ≤ length out.old) × (from + 16 ≤ length text.now) }
+    ensures { Put (code ∷ take 16 (drop from text.now)) out.old at out.new result }
 {
+    out[at] = code;
+    copy_run::<16>(out, at + 1, text, from);
+    17
+}
+
+// A number in the shortest form of its kind.
+pub(crate) fn put_number(out: &mut [u8], at: usize, kind: Kind, number: u64) -> usize
+    requires { (is_number (style_of (kind_is kind)) ≡ true)
+        × (at + length (head (style_of (kind_is kind)) (kind_is kind % 256) number 0) ≤ length out.old) }
+    ensures { Put (head (style_of (kind_is kind)) (kind_is kind % 256) number 0) out.old at out.new result }
+{
+    let code = kind as u8;
     match kind {
-        0x40 => put_coded(out, at, format_code::NULL, 0, number),
-        0x50 => put_coded(out, at, format_code::UBYTE, 1, number),
-        0x51 => put_coded(out, at, format_code::BYTE, 1, number),
-        0x56 => put_flag(out, at, format_code::TRUE, format_code::FALSE, number),
-        0x60 => put_coded(out, at, format_code::USHORT, 2, number),
-        0x61 => put_coded(out, at, format_code::SHORT, 2, number),
-        0x70 => put_unsigned(
-            out,
-            at,
-            format_code::UINT_0,
-            format_code::SMALL_UINT,
-            format_code::UINT,
-            4,
-            number,
-        ),
-        0x71 => put_signed(out, at, format_code::SMALL_INT, format_code::INT, 4, number),
-        0x72 => put_coded(out, at, format_code::FLOAT, 4, number),
-        0x73 => put_coded(out, at, format_code::CHAR, 4, number),
-        0x74 => put_coded(out, at, format_code::DECIMAL_32, 4, number),
-        0x80 => put_unsigned(
-            out,
-            at,
-            format_code::ULONG_0,
-            format_code::SMALL_ULONG,
-            format_code::ULONG,
-            8,
-            number,
-        ),
-        0x81 => put_signed(
-            out,
-            at,
-            format_code::SMALL_LONG,
-            format_code::LONG,
-            8,
-            number,
-        ),
-        0x82 => put_coded(out, at, format_code::DOUBLE, 8, number),
-        0x83 => put_coded(out, at, format_code::TIMESTAMP, 8, number),
-        0x84 => put_coded(out, at, format_code::DECIMAL_64, 8, number),
-        _ => 0,
+        Kind::Null => put_code(out, at, code),
+        Kind::Boolean => put_flag(out, at, format_code::TRUE, format_code::FALSE, number),
+        Kind::Ubyte | Kind::Byte => put_coded::<1>(out, at, code, number),
+        Kind::Ushort | Kind::Short => put_coded::<2>(out, at, code, number),
+        Kind::Uint => {
+            let (zero, byte) = (format_code::UINT_0, format_code::SMALL_UINT);
+            put_unsigned::<4>(out, at, zero, byte, code, number)
+        }
+        Kind::Int => put_signed::<4>(out, at, format_code::SMALL_INT, code, number),
+        Kind::Float | Kind::Char | Kind::Decimal32 => put_coded::<4>(out, at, code, number),
+        Kind::Ulong => {
+            let (zero, byte) = (format_code::ULONG_0, format_code::SMALL_ULONG);
+            put_unsigned::<8>(out, at, zero, byte, code, number)
+        }
+        Kind::Long => put_signed::<8>(out, at, format_code::SMALL_LONG, code, number),
+        Kind::Double | Kind::Timestamp | Kind::Decimal64 => {
+            put_coded::<8>(out, at, code, number)
+        }
+        _ => unreachable!(),
     }
 }

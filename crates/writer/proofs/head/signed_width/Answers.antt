@@ -2,7 +2,7 @@
 use mathlib.Core.Path.{sym}
 use Rattle.standard.specs.Encode.{shortest}
 use Rattle.writer.proofs.Direct.{coded_long}
-use Rattle.writer.proofs.marking.signed_width.Goals as goal
+use Rattle.writer.proofs.head.signed_width.Goals as goal
 
 pub returns-then-fits_byte : goal.returns-then-fits_byte
 unfolding shortest

@@ -2,7 +2,7 @@
 use borrow.Author.Tests.{lt-ltb, le-ltb}
 use native.Mathlib.Omega.{arith}
 use Rattle.writer.specs.Heads.{enclosure}
-use Rattle.writer.proofs.filling.put_enclosure.Goals as goal
+use Rattle.writer.proofs.put.put_enclosure.Goals as goal
 
 pub put_sized-requires : goal.put_sized-requires
 unfolding enclosure

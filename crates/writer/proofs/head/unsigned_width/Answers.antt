@@ -4,7 +4,7 @@ use mathlib.Core.Path.{sym}
 use native.Mathlib.Omega.{arith}
 use Rattle.standard.specs.Encode.{shortest}
 use Rattle.writer.proofs.Direct.{coded_long}
-use Rattle.writer.proofs.marking.unsigned_width.Goals as goal
+use Rattle.writer.proofs.head.unsigned_width.Goals as goal
 
 pub returns-then-number-eq0 : goal.returns-then-number-eq0
 unfolding shortest
