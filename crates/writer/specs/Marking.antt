@@ -1,5 +1,6 @@
 -- Marking: how it goes from point to point, and the tables that it is for.
-use Rattle.std.specs.Prelude.{ℕ, ◌+◌, ◌*◌, ◌-◌, ◌%◌, ◌^◌, ◌≤◌, ◌<◌, ◌≡◌, List, Bool, true, eqb, ltb, length, get_or, set, repeat, Option, MatchOption}
+use Rattle.std.specs.Prelude.{ℕ, ◌+◌, ◌*◌, ◌-◌, ◌%◌, ◌^◌, ◌≤◌, ◌<◌, ◌≡◌, List, Bool, true, eqb, ltb, length, get_or, set, Option, MatchOption}
+use lib.ListN.{replicate}
 use Rattle.standard.specs.Choose.{if}
 use Rattle.standard.specs.Tree.{Tree, rows}
 use Rattle.standard.specs.Kinds.{Style, style_of, is_kind, count_in}
@@ -8,7 +9,7 @@ use Rattle.standard.specs.Encode.{short_end, encode}
 use Rattle.standard.specs.Outcomes.{level_most}
 use Rattle.writer.specs.Heads.{Mode, values, elements, array_width, head_in}
 use Rattle.writer.specs.Marks.{mark_width, marks}
-use Rattle.writer.specs.declared.marking.Open.{Open}
+use Rattle.writer.specs.declared.marking.Begun.{Begun}
 use Rattle.writer.specs.declared.marking.Stack.{Stack}
 use Rattle.writer.specs.declared.marking.Point.{Point}
 
@@ -37,25 +38,25 @@ bare m k n = length (head_in m (style_of k) (k % 256) n 0) + letters (style_of k
 
 -- Stacks
 
-abbrev pub none_open : Open
-none_open = record { size = 0; mark = 0; left = 0; mode = values }
+abbrev pub none_begun : Begun
+none_begun = record { size = 0; mark = 0; left = 0; mode = values }
 
 -- with nothing on it
 abbrev pub emptied : Stack
-emptied = record { open = repeat level_most none_open; top = 0 }
+emptied = record { begun = replicate level_most none_begun; top = 0 }
 
-abbrev pub pushed : Stack → Open → Stack
-pushed s e = record { open = set s.open s.top e; top = s.top + 1 }
+abbrev pub pushed : Stack → Begun → Stack
+pushed s e = record { begun = set s.begun s.top e; top = s.top + 1 }
 
 -- the last of them
-abbrev pub last_open : Stack → Open
-last_open s = get_or s.open (s.top - 1) none_open
+abbrev pub last_begun : Stack → Begun
+last_begun s = get_or s.begun (s.top - 1) none_begun
 
 abbrev pub popped : Stack → Stack
-popped s = record { open = s.open; top = s.top - 1 }
+popped s = record { begun = s.begun; top = s.top - 1 }
 
-abbrev pub Popped : (before after : Stack) → Option Open → Type 0
-Popped s t r = MatchOption r (λ e. (0 < s.top) × (e ≡ last_open s) × (t ≡ popped s)) ((s.top ≡ 0) × (t ≡ s))
+abbrev pub Popped : (before after : Stack) → Option Begun → Type 0
+Popped s t r = MatchOption r ((s.top ≡ 0) × (t ≡ s)) (λ e. (0 < s.top) × (e ≡ last_begun s) × (t ≡ popped s))
 
 -- Points
 
@@ -75,11 +76,11 @@ mode_in k = if (eqb k 0xf0) elements values
 abbrev pub entered : Point → (kind count : ℕ) → Point
 entered c k n = record { row = c.row + 1; size = c.size; mark = c.mark + 3; left = n; mode = mode_in k }
 
-abbrev pub opened : Point → Open
+abbrev pub opened : Point → Begun
 opened c = record { size = c.size; mark = c.mark; left = c.left - 1; mode = c.mode }
 
 -- behind a compound whose children are taken
-abbrev pub closed : Open → Point → Point
+abbrev pub closed : Begun → Point → Point
 closed e c = record { row = c.row; size = c.size + box_width e.mode c.mode (c.size - e.size); mark = c.mark; left = e.left; mode = e.mode }
 
 -- behind a row of that kind and number, or at its first child; and the stack there
@@ -96,14 +97,14 @@ pub record Ready (words : List ℕ) (s : Stack) (c : Point) : Type 0 where
   pub some : 0 < c.left
   pub fits : c.mode ≡ elements → ¬ (kind_on words c ≡ 0)
   pub room : s.top < level_most
-  pub long : length s.open ≡ level_most
+  pub long : length s.begun ≡ level_most
   pub small : c.size + letters (style_of (kind_on words c)) (number_on words c) ≤ most
   pub row : c.row + 1 < 2 ^ 64
   pub mark : c.mark + 3 < 2 ^ 32
   pub left : c.left < 2 ^ 31
 
 -- No row is due, and the mark of the compound that ends has its place
-pub record Complete (e : Open) (out : List ℕ) (c : Point) : Type 0 where
+pub record Complete (e : Begun) (out : List ℕ) (c : Point) : Type 0 where
   pub start : e.size ≤ c.size
   pub place : e.mark + 3 ≤ length out
   pub small : c.size ≤ most

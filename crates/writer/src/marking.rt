@@ -23,7 +23,7 @@ const LEVELS: usize = 32;
 // A list, a map or an array that has begun: the bytes before it, the place of its mark, and how many rows are due behind it and what they
 // are. Every number is below 2^22, so 32 bits are enough for it and the stack stays small.
 #[derive(Clone, Copy)]
-pub struct Open {
+pub struct Begun {
     pub size: u32,
     pub mark: u32,
     pub left: u32,
@@ -33,7 +33,7 @@ pub struct Open {
 // Those that have not ended, the innermost last.
 #[derive(Drop)]
 pub struct Stack {
-    pub open: [Open; LEVELS],
+    pub begun: [Begun; LEVELS],
     pub top: usize,
 }
 
@@ -41,35 +41,35 @@ impl Stack {
     fn new() -> Self
         ensures { result ≡ emptied }
     {
-        let none = Open {
+        let none = Begun {
             size: 0,
             mark: 0,
             left: 0,
             mode: Mode::Values,
         };
         Self {
-            open: [none; LEVELS],
+            begun: [none; LEVELS],
             top: 0,
         }
     }
 
-    fn push(&mut self, open: Open)
-        requires { (self.old.top < level_most) × (length self.old.open ≡ level_most) }
-        ensures { self.new ≡ pushed self.old open }
+    fn push(&mut self, begun: Begun)
+        requires { (self.old.top < level_most) × (length self.old.begun ≡ level_most) }
+        ensures { self.new ≡ pushed self.old begun }
     {
-        self.open[self.top] = open;
+        self.begun[self.top] = begun;
         self.top += 1;
     }
 
-    fn pop(&mut self) -> Option<Open>
-        requires { (self.old.top ≤ level_most) × (length self.old.open ≡ level_most) }
+    fn pop(&mut self) -> Option<Begun>
+        requires { (self.old.top ≤ level_most) × (length self.old.begun ≡ level_most) }
         ensures { Popped self.old self.new result }
     {
         if self.top == 0 {
             return None;
         }
         self.top -= 1;
-        Some(self.open[self.top])
+        Some(self.begun[self.top])
     }
 }
 
@@ -139,10 +139,10 @@ fn box_width(mode: Mode, inside: Mode, children: usize) -> usize
 
 // A list, a map or an array with so many children begins.
 fn open(stack: &mut Stack, c: Point, kind: Kind, count: usize) -> Point
-    requires { (stack.old.top < level_most) × (length stack.old.open ≡ level_most) × (0 < c.left) × (c.left < 2 ^ 31) × (c.row + 1 < 2 ^ 64) × (c.size < 2 ^ 32) × (c.mark + 3 < 2 ^ 32) }
+    requires { (stack.old.top < level_most) × (length stack.old.begun ≡ level_most) × (0 < c.left) × (c.left < 2 ^ 31) × (c.row + 1 < 2 ^ 64) × (c.size < 2 ^ 32) × (c.mark + 3 < 2 ^ 32) }
     ensures { (result ≡ entered c (kind_is kind) count) × (stack.new ≡ pushed stack.old (opened c)) }
 {
-    stack.push(Open {
+    stack.push(Begun {
         size: c.size as u32,
         mark: c.mark as u32,
         left: (c.left - 1) as u32,
@@ -161,18 +161,18 @@ fn open(stack: &mut Stack, c: Point, kind: Kind, count: usize) -> Point
 }
 
 // The innermost list, map or array ends.
-fn close(open: Open, out: &mut [u8], c: Point) -> Point
-    requires { Complete open out.old c }
-    ensures { (result ≡ closed open c) × (out.new ≡ sets out.old open.mark (be 3 (c.size - open.size))) }
+fn close(begun: Begun, out: &mut [u8], c: Point) -> Point
+    requires { Complete begun out.old c }
+    ensures { (result ≡ closed begun c) × (out.new ≡ sets out.old begun.mark (be 3 (c.size - begun.size))) }
 {
-    let children = c.size - open.size as usize;
-    put::put_three(out, open.mark as usize, children as u64);
+    let children = c.size - begun.size as usize;
+    put::put_three(out, begun.mark as usize, children as u64);
     Point {
         row: c.row,
-        size: c.size + box_width(open.mode, c.mode, children),
+        size: c.size + box_width(begun.mode, c.mode, children),
         mark: c.mark,
-        left: open.left as usize,
-        mode: open.mode,
+        left: begun.left as usize,
+        mode: begun.mode,
     }
 }
 
@@ -207,8 +207,8 @@ pub(crate) fn mark_table(words: &[u64], out: &mut [u8], mark: usize)
     loop {
         if 0 < c.left {
             c = take_row(words, &mut stack, c);
-        } else if let Some(open) = stack.pop() {
-            c = close(open, out, c);
+        } else if let Some(begun) = stack.pop() {
+            c = close(begun, out, c);
         } else {
             return;
         }
