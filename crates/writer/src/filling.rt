@@ -1,18 +1,19 @@
 // Writing the rows of a table that sizing has accepted, one after another, by the marks of its compounds.
-ghost use Rattle.std.specs.Prelude.{◌≡◌, ℕ, ◌+◌, ◌*◌, ◌%◌, ◌^◌, ◌≤◌, ◌<◌, true, false, eqb, length, take, drop};
+ghost use Rattle.std.specs.Prelude.{◌≡◌, ℕ, ◌+◌, ◌%◌, ◌^◌, ◌≤◌, ◌<◌, true, false, eqb, leb, length, take, drop};
 ghost use Rattle.std.proofs.lemmas.List.Edits.{sets};
 ghost use Rattle.standard.specs.Choose.{if};
 ghost use Rattle.standard.specs.Bytes.{unbe};
-ghost use Rattle.standard.specs.Kinds.{style_of};
+ghost use Rattle.standard.specs.Kinds.{style_of, is_kind, kind_in};
 ghost use Rattle.standard.specs.InCode.{kind_is};
 ghost use Rattle.standard.specs.Tree.{Tree, Trees, none};
 ghost use Rattle.standard.specs.Encode.{encode};
 ghost use Rattle.writer.specs.Heads.{head, array_fields, values, elements};
 ghost use Rattle.writer.specs.Direct.{is_arrayed, is_list_or_map, Put};
-ghost use Rattle.writer.specs.Filling.{fresh, behind, kind_at, mark_at, Ready, Stepped, Filled, One, Done, Elements, Rows, Run, SomeLeft, Fillable};
+ghost use Rattle.writer.specs.Filling.{fresh, behind, kind_at, number_at, mark_at, Ready, Stepped, Filled, One, Done, Elements, Rows, Run, SomeLeft, Fillable};
 
 use crate::head::Mode;
-use crate::{head, put};
+use crate::row::{Row, Table};
+use crate::{head, put, row};
 use standard::kind::Kind;
 use standard::{format_code, kind};
 
@@ -111,23 +112,22 @@ fn put_compound(out: &mut [u8], at: usize, kind: Kind, count: u64, mark: usize) 
 }
 
 // A row that is a value of its own, but no array. It goes by its kind at once, which is faster than by a style.
-fn put_value(words: &[u64], text: &[u8], out: &mut [u8], c: Cursor) -> Cursor
-    requires { Ready values words.now text.now out.old c × (is_arrayed (style_of (kind_at words.now c)) ≡ false) }
-    ensures { Stepped values words.now text.now out.old c out.new result }
+fn put_value(table: Table, out: &mut [u8], c: Cursor) -> Cursor
+    requires { Ready values table.words.now table.text.now out.old c × (is_arrayed (style_of (kind_at table.words.now c)) ≡ false) }
+    ensures { Stepped values table.entry.words.now table.entry.text.now out.old c out.new result }
 {
-    let kind = head::known_kind(words[2 * c.row]);
-    let number = words[2 * c.row + 1];
+    let Row { kind, number } = row::known_row(table.words, c.row);
     match kind {
         Kind::Described => {
             let size = put::put_code(out, c.at, format_code::DESCRIBED);
             c.behind(size, 0, 0)
         }
         Kind::Binary | Kind::String | Kind::Symbol => {
-            let size = put::put_letters(out, c.at, kind, number, text, c.text);
+            let size = put::put_letters(out, c.at, kind, number, table.text, c.text);
             c.behind(size, number as usize, 0)
         }
         Kind::Decimal128 | Kind::Uuid => {
-            let size = put::put_blob(out, c.at, kind as u8, text, c.text);
+            let size = put::put_blob(out, c.at, kind as u8, table.text, c.text);
             c.behind(size, 16, 0)
         }
         Kind::List | Kind::Map => {
@@ -143,27 +143,25 @@ fn put_value(words: &[u64], text: &[u8], out: &mut [u8], c: Cursor) -> Cursor
 }
 
 // A row that is an element and no list, map or array: its number in full width, and its text.
-fn put_item(words: &[u64], text: &[u8], out: &mut [u8], c: Cursor) -> Cursor
-    requires { Ready elements words.now text.now out.old c × (is_list_or_map (style_of (kind_at words.now c)) ≡ false) × (is_arrayed (style_of (kind_at words.now c)) ≡ false) }
-    ensures { Stepped elements words.now text.now out.old c out.new result }
+fn put_item(table: Table, out: &mut [u8], c: Cursor) -> Cursor
+    requires { Ready elements table.words.now table.text.now out.old c × (is_list_or_map (style_of (kind_at table.words.now c)) ≡ false) × (is_arrayed (style_of (kind_at table.words.now c)) ≡ false) }
+    ensures { Stepped elements table.entry.words.now table.entry.text.now out.old c out.new result }
 {
-    let kind = head::known_kind(words[2 * c.row]);
-    let number = words[2 * c.row + 1];
+    let Row { kind, number } = row::known_row(table.words, c.row);
     let letters = kind.style().letters(number) as usize;
     let width = head::item_width(kind);
     put::put_be(out, c.at, width, number);
-    put::put_text(out, c.at + width, text, c.text, letters);
+    put::put_text(out, c.at + width, table.text, c.text, letters);
     c.behind(width + letters, letters, 0)
 }
 
-// A row that is an element and a list or a map with a body of so many bytes: its size and its count. It has no text of its own:
-// `text` is there for the promise alone.
-fn put_nested(words: &[u64], text: &[u8], out: &mut [u8], body: usize, c: Cursor) -> Cursor
-    requires { Ready elements words.now text.now out.old c × (is_list_or_map (style_of (kind_at words.now c)) ≡ true)
-        × (body ≡ unbe (take (mark_at words.now c) (drop c.mark out.old))) × (body < 2 ^ 24) }
-    ensures { Stepped elements words.now text.now out.old c out.new result }
+// A row that is an element and a list or a map with a body of so many bytes: its size and its count.
+fn put_nested(table: Table, out: &mut [u8], body: usize, c: Cursor) -> Cursor
+    requires { Ready elements table.words.now table.text.now out.old c × (is_list_or_map (style_of (kind_at table.words.now c)) ≡ true)
+        × (body ≡ unbe (take (mark_at table.words.now c) (drop c.mark out.old))) × (body < 2 ^ 24) }
+    ensures { Stepped elements table.entry.words.now table.entry.text.now out.old c out.new result }
 {
-    let count = words[2 * c.row + 1];
+    let count = table.words[2 * c.row + 1];
     put::put_fields(out, c.at, body as u64, count);
     c.behind(head::ITEM_WIDTH, 0, mark_width(count))
 }
@@ -186,19 +184,13 @@ fn put_array_fields(out: &mut [u8], at: usize, mode: Mode, count: u64, body: u64
 }
 
 // The head of an array whose elements take so many bytes: it ends in their code.
-fn put_array(
-    words: &[u64],
-    text: &[u8],
-    out: &mut [u8],
-    mode: Mode,
-    elements: usize,
-    c: Cursor,
-) -> Cursor
-    requires { Ready mode words.now text.now out.old c × (kind_at words.now c ≡ 0xf0)
-        × (elements ≡ unbe (take (mark_at words.now c) (drop c.mark out.old))) × (elements < 2 ^ 24) }
-    ensures { Stepped mode words.now text.now out.old c out.new result }
+fn put_array(table: Table, out: &mut [u8], mode: Mode, elements: usize, c: Cursor) -> Cursor
+    requires { Ready mode table.words.now table.text.now out.old c × (kind_at table.words.now c ≡ 0xf0)
+        × (is_kind (style_of (kind_in (number_at table.words.now c))) ≡ true)
+        × (elements ≡ unbe (take (mark_at table.words.now c) (drop c.mark out.old))) × (elements < 2 ^ 24) }
+    ensures { Stepped mode table.entry.words.now table.entry.text.now out.old c out.new result }
 {
-    let number = words[2 * c.row + 1];
+    let number = table.words[2 * c.row + 1];
     let count = kind::count_of_elements(number);
     let told = kind::kind_of_elements(number).unwrap();
     let at = c.at;
@@ -208,103 +200,95 @@ fn put_array(
 }
 
 // The values up to `last`, or up to the first that is an array.
-fn fill_values(words: &[u64], text: &[u8], out: &mut [u8], last: usize, start: Cursor) -> Cursor
-    requires { SomeLeft words.now text.now out.old last start }
-    ensures { Run words.now text.now out.old last start out.new result }
+fn fill_values(table: Table, out: &mut [u8], last: usize, start: Cursor) -> Cursor
+    requires { SomeLeft table.words.now table.text.now out.old last start }
+    ensures { Run table.entry.words.now table.entry.text.now out.old last start out.new result }
 {
     let mut c = start;
     while c.at < last {
-        if words[2 * c.row] == Kind::Array as u64 {
+        if table.words[2 * c.row] == Kind::Array as u64 {
             return c;
         }
-        c = put_value(words, text, out, c);
+        c = put_value(table, out, c);
     }
     c
 }
 
 // The same for `fill_rows`, whose calls share their memory if each stands in a function of its own.
-fn fill_run(words: &[u64], text: &[u8], out: &mut [u8], last: usize, c: Cursor) -> Cursor
-    requires { SomeLeft words.now text.now out.old last c }
-    ensures { Run words.now text.now out.old last c out.new result }
+fn fill_run(table: Table, out: &mut [u8], last: usize, c: Cursor) -> Cursor
+    requires { SomeLeft table.words.now table.text.now out.old last c }
+    ensures { Run table.entry.words.now table.entry.text.now out.old last c out.new result }
 {
-    let behind = fill_values(words, text, out, last, c);
+    let behind = fill_values(table, out, last, c);
     return behind;
 }
 
 // The elements up to `end`, none of them a list, a map or an array.
-fn fill_plain(words: &[u64], text: &[u8], out: &mut [u8], end: usize, start: Cursor) -> Cursor
-    requires { (k : ℕ) × (vs : Trees) × (k < 0xd0) × Elements words.now text.now out.old end start k vs }
-    ensures { (k : ℕ) (vs : Trees) → Elements words.now text.now out.old end start k vs → k < 0xd0 → Filled out.old start none vs out.new result }
+fn fill_plain(table: Table, out: &mut [u8], end: usize, start: Cursor) -> Cursor
+    requires { (k : ℕ) × (vs : Trees) × (k < 0xd0) × Elements table.words.now table.text.now out.old end start k vs }
+    ensures { (k : ℕ) (vs : Trees) → Elements table.entry.words.now table.entry.text.now out.old end start k vs → k < 0xd0 → Filled out.old start none vs out.new result }
 {
     let mut c = start;
     while c.at < end {
-        c = put_item(words, text, out, c);
+        c = put_item(table, out, c);
     }
     c
 }
 
 // The elements up to `end` of an array that tells that kind.
 #[cycle(fill_array_fill_items_fill_rows)]
-fn fill_items(
-    words: &[u64],
-    text: &[u8],
-    out: &mut [u8],
-    told: Kind,
-    end: usize,
-    c: Cursor,
-) -> Cursor
-    requires { (vs : Trees) × Elements words.now text.now out.old end c (kind_is told) vs }
-    ensures { (vs : Trees) → Elements words.now text.now out.old end c (kind_is told) vs → Filled out.old c none vs out.new result }
+fn fill_items(table: Table, out: &mut [u8], told: Kind, end: usize, c: Cursor) -> Cursor
+    requires { (vs : Trees) × Elements table.words.now table.text.now out.old end c (kind_is told) vs }
+    ensures { (vs : Trees) → Elements table.entry.words.now table.entry.text.now out.old end c (kind_is told) vs → Filled out.old c none vs out.new result }
 {
     match told {
-        Kind::List | Kind::Map | Kind::Array => fill_rows(words, text, out, end, c.at, c),
-        _ => fill_plain(words, text, out, end, c),
+        Kind::List | Kind::Map | Kind::Array => fill_rows(table, out, end, c.at, c),
+        _ => fill_plain(table, out, end, c),
     }
 }
 
 // An array, which is a value or an element itself: its head, and its elements.
 #[cycle(fill_array_fill_items_fill_rows)]
-fn fill_array(words: &[u64], text: &[u8], out: &mut [u8], mode: Mode, c: Cursor) -> Cursor
-    requires { (kind_at words.now c ≡ 0xf0) × ((k : ℕ) × (v : Tree) × One words.now text.now out.old mode c k v) }
-    ensures { (k : ℕ) (v : Tree) → One words.now text.now out.old mode c k v → Done out.old mode c v out.new result }
+fn fill_array(table: Table, out: &mut [u8], mode: Mode, c: Cursor) -> Cursor
+    requires { (kind_at table.words.now c ≡ 0xf0) × ((k : ℕ) × (v : Tree) × One table.words.now table.text.now out.old mode c k v) }
+    ensures { (k : ℕ) (v : Tree) → One table.entry.words.now table.entry.text.now out.old mode c k v → Done out.old mode c v out.new result }
 {
-    let number = words[2 * c.row + 1];
+    let number = table.words[2 * c.row + 1];
     let told = kind::kind_of_elements(number).unwrap();
     let elements = body_at(out, c.mark, kind::count_of_elements(number));
-    let first = put_array(words, text, out, mode, elements, c);
-    fill_items(words, text, out, told, first.at + elements, first)
+    let first = put_array(table, out, mode, elements, c);
+    fill_items(table, out, told, first.at + elements, first)
+}
+
+// What the next row is: values stand before `last`, and elements from there on.
+fn mode_at(c: Cursor, last: usize) -> Mode
+    ensures { result ≡ if (leb last c.at) elements values }
+{
+    if last <= c.at {
+        return Mode::Elements;
+    }
+    Mode::Values
 }
 
 // The rows up to `end`: values up to `first`, and behind them elements, each a list, a map or an array.
 #[cycle(fill_array_fill_items_fill_rows)]
-fn fill_rows(
-    words: &[u64],
-    text: &[u8],
-    out: &mut [u8],
-    end: usize,
-    first: usize,
-    start: Cursor,
-) -> Cursor
-    requires { (k : ℕ) × (us : Trees) × (vs : Trees) × Rows words.now text.now out.old end first start k us vs }
-    ensures { (k : ℕ) (us vs : Trees) → Rows words.now text.now out.old end first start k us vs → Filled out.old start us vs out.new result }
+fn fill_rows(table: Table, out: &mut [u8], end: usize, first: usize, start: Cursor) -> Cursor
+    requires { (k : ℕ) × (us : Trees) × (vs : Trees) × Rows table.words.now table.text.now out.old end first start k us vs }
+    ensures { (k : ℕ) (us vs : Trees) → Rows table.entry.words.now table.entry.text.now out.old end first start k us vs → Filled out.old start us vs out.new result }
 {
     let mut c = start;
     let mut last = first;
     while c.at < end {
-        let mode = if last <= c.at {
-            Mode::Elements
-        } else {
-            Mode::Values
-        };
-        if words[2 * c.row] == Kind::Array as u64 {
-            c = fill_array(words, text, out, mode, c);
+        let mode = mode_at(c, last);
+        if table.words[2 * c.row] == Kind::Array as u64 {
+            c = fill_array(table, out, mode, c);
             continue;
         }
         match mode {
-            Mode::Values => c = fill_run(words, text, out, last, c),
+            Mode::Values => c = fill_run(table, out, last, c),
             Mode::Elements => {
-                let body = body_at(out, c.mark, words[2 * c.row + 1]);
-                c = put_nested(words, text, out, body, c);
+                let body = body_at(out, c.mark, table.words[2 * c.row + 1]);
+                c = put_nested(table, out, body, c);
                 last = c.at + body;
             }
         }
@@ -313,12 +297,12 @@ fn fill_rows(
 }
 
 // Writes all rows into the first n bytes of the output, at whose end the marks stand from `mark` on.
-pub(crate) fn fill(words: &[u64], text: &[u8], out: &mut [u8], n: usize, mark: usize)
-    requires { (v : Tree) × Fillable words.now text.now out.old n mark v }
-    ensures { (v : Tree) → Fillable words.now text.now out.old n mark v → out.new ≡ sets out.old 0 (encode v) }
+pub(crate) fn fill(table: Table, out: &mut [u8], n: usize, mark: usize)
+    requires { (v : Tree) × Fillable table.words.now table.text.now out.old n mark v }
+    ensures { (v : Tree) → Fillable table.entry.words.now table.entry.text.now out.old n mark v → out.new ≡ sets out.old 0 (encode v) }
 {
-    let c = fill_values(words, text, out, n, Cursor::new(mark));
+    let c = fill_values(table, out, n, Cursor::new(mark));
     if c.at < n {
-        fill_rows(words, text, out, n, n, c);
+        fill_rows(table, out, n, n, c);
     }
 }

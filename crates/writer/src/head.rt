@@ -1,7 +1,7 @@
 // What stands before a row's text: how many bytes its format code takes, and its number or its size and count (docs/FORMAT.md, 3).
-ghost use Rattle.std.specs.Prelude.{◌≡◌, true, ◌+◌, ◌%◌, ◌^◌, ◌<◌, ◌≤◌, ℕ, length, ltb};
+ghost use Rattle.std.specs.Prelude.{◌≡◌, ◌+◌, ◌%◌, ◌^◌, ◌<◌, ◌≤◌, ℕ, length, ltb};
 ghost use Rattle.standard.specs.Choose.{if};
-ghost use Rattle.standard.specs.Kinds.{unsigned, signed, style_of, is_kind};
+ghost use Rattle.standard.specs.Kinds.{unsigned, signed, style_of};
 ghost use Rattle.standard.specs.Encode.{shortest, short_end};
 ghost use Rattle.standard.specs.InCode.{kind_is};
 ghost use Rattle.writer.specs.Heads.{head, array_width, item_width};
@@ -21,14 +21,6 @@ pub(crate) const MARK_WIDTH: usize = 3;
 pub enum Mode {
     Values,
     Elements,
-}
-
-// The kind of a row of a table that sizing has accepted, by its number.
-pub(crate) fn known_kind(word: u64) -> Kind
-    requires { is_kind (style_of word) ≡ true }
-    ensures { kind_is result ≡ word }
-{
-    Kind::try_from(word).unwrap()
 }
 
 // The bytes of an unsigned number of that width, and of one in two's complement.
@@ -87,20 +79,8 @@ pub(crate) fn head_width(kind: Kind, number: u64) -> usize
         Kind::Ulong => unsigned_width(number, 8),
         Kind::Long => signed_width(number, 8),
         Kind::Double | Kind::Timestamp | Kind::Decimal64 => 9,
-        Kind::Binary | Kind::String | Kind::Symbol => {
-            if number < SHORT_END {
-                2
-            } else {
-                5
-            }
-        }
-        Kind::List => {
-            if number == 0 {
-                1
-            } else {
-                compound_width(0)
-            }
-        }
+        Kind::Binary | Kind::String | Kind::Symbol => { if number < SHORT_END { 2 } else { 5 } }
+        Kind::List => { if number == 0 { 1 } else { compound_width(0) } }
         Kind::Map => compound_width(0),
         Kind::Array => array_width(0),
     }

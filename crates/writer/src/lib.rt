@@ -116,7 +116,7 @@ fn write_table(table: Table, n: usize, m: usize, out: &mut [u8])
         → out.new ≡ sets before 0 (bytes_in (tables.table level_most table.entry.words.now table.entry.text.now)) }
 {
     put_far(table.words, n, m, out);
-    filling::fill(table.words, table.text, out, n, n - m);
+    filling::fill(table, out, n, n - m);
 }
 
 // Writes a table to the front of the output within a level limit, or refuses and leaves the output as it is.

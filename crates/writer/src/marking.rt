@@ -13,7 +13,8 @@ ghost use Rattle.writer.specs.Marks.{marks};
 ghost use Rattle.writer.specs.Marking.{emptied, pushed, Popped, opened, boxes, box_width, kind_on, number_on, from_start, beyond, entered, closed, taken, stacked, Ready, Complete, Markable, Tabled};
 
 use crate::head::Mode;
-use crate::{head, put};
+use crate::row::Row;
+use crate::{head, put, row};
 use standard::kind;
 use standard::kind::Kind;
 
@@ -182,8 +183,7 @@ fn take_row(words: &[u64], stack: &mut Stack, c: Point) -> Point
     ensures { (result ≡ taken c (kind_on words.now c) (number_on words.now c))
         × (stack.new ≡ stacked stack.old c (kind_on words.now c) (number_on words.now c)) }
 {
-    let kind = head::known_kind(words[2 * c.row]);
-    let number = words[2 * c.row + 1];
+    let Row { kind, number } = row::known_row(words, c.row);
     if is_boxed(kind, number) {
         return open(stack, c, kind, kind::count_of_elements(number) as usize);
     }

@@ -85,13 +85,7 @@ fn put_coded<const N: usize>(out: &mut [u8], at: usize, code: u8, number: u64) -
 }
 
 // A code, and the size and the count of a body in N bytes each. The size takes in the bytes of the count.
-fn put_sized<const N: usize>(
-    out: &mut [u8],
-    at: usize,
-    code: u8,
-    body: u64,
-    count: u64,
-) -> usize
+fn put_sized<const N: usize>(out: &mut [u8], at: usize, code: u8, body: u64, count: u64) -> usize
     requires { (N ≤ 8) × (N + body < 2 ^ 64) × (at + length (code ∷ be N (N + body) ++ be N count) ≤ length out.old) }
     ensures { Put (code ∷ be N (N + body) ++ be N count) out.old at out.new result }
 {

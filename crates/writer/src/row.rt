@@ -1,7 +1,8 @@
 // A value table, and the checks of one of its rows (docs/FORMAT.md, 2 and 5.2).
-ghost use Rattle.std.specs.Prelude.{◌≡◌, ◌*◌, ◌≤◌, length, drop};
+ghost use Rattle.std.specs.Prelude.{◌≡◌, true, ◌+◌, ◌*◌, ◌≤◌, length, drop, get_or};
 ghost use Rattle.standard.specs.Answer.{element_unfit, number_outside};
 ghost use Rattle.standard.specs.Choose.{if};
+ghost use Rattle.standard.specs.Kinds.{style_of, is_kind};
 ghost use Rattle.standard.specs.Table.{allowed, naming, spot_in};
 ghost use Rattle.standard.specs.InCode.{kind_is, reason_is, style_is};
 ghost use Rattle.writer.specs.Rows.{Front, check};
@@ -112,4 +113,15 @@ pub(crate) fn check_row(
         return Err(refuse(Reason::TextAmiss, from + good));
     }
     Ok(Row { kind, number })
+}
+
+// The row at `row` of a table that sizing has accepted.
+pub(crate) fn known_row(words: &[u64], row: usize) -> Row
+    requires { (2 * row + 2 ≤ length words.now) × (is_kind (style_of (get_or words.now (2 * row) 0)) ≡ true) }
+    ensures { (kind_is result.kind ≡ get_or words.now (2 * row) 0) × (result.number ≡ get_or words.now (2 * row + 1) 0) }
+{
+    Row {
+        kind: Kind::try_from(words[2 * row]).unwrap(),
+        number: words[2 * row + 1],
+    }
 }
