@@ -26,6 +26,7 @@ use Rattle.laws.specs.Stores.{sets_append}
 use Rattle.standard.proofs.Lookup.{Rest}
 use Rattle.writer.specs.Heads.{head, item_width, body_of, Mode, values, elements, mode_is, mode_of, head_in, written*}
 use Rattle.writer.specs.Direct.{is_list_or_map, is_arrayed, number_head}
+use Rattle.writer.specs.Sizing.{Sure}
 use Rattle.writer.specs.Marks.{mark_width, marks, marks*}
 use Rattle.writer.specs.Marking.{boxes, box_width, kind_on, number_on, bare, due, start_on, place_on, left_on, elements_on, from_start, beyond, closed, taken, stacked, Ready, Complete, Markable}
 use Rattle.writer.specs.declared.marking.Point.{Point}
@@ -33,7 +34,7 @@ use Rattle.writer.proofs.Tabled.{kinds_onto, other}
 use Rattle.writer.proofs.Bodies.{enclosed_width, item_wide, item_short, head_short, kind_small}
 use Rattle.writer.proofs.Direct.{number_front}
 use Rattle.writer.proofs.Joined.{join, count_join, rows_join, marks_join, size_join, valid_join, deeper*, few}
-use Rattle.writer.proofs.Spots.{Sure, sure_inside, element_fits, row_bytes}
+use Rattle.writer.proofs.Spots.{sure_inside, element_fits, row_bytes}
 use Rattle.writer.proofs.Checks.{not_true}
 use Rattle.writer.proofs.Stores.{sets_swap}
 use Rattle.writer.proofs.Sizes.{named, is_named, between, array_long}

@@ -23,14 +23,14 @@ use Rattle.laws.specs.Stores.{sets_append}
 use Rattle.laws.specs.Written.{form_some, item_form, well_formed}
 use Rattle.writer.specs.Heads.{enclosure, head, item_head, item_width, body_of, Mode, values, elements, mode_is, mode_of, head_in, written}
 use Rattle.writer.specs.Marks.{mark_width, marks, marks*}
-use Rattle.writer.specs.Sizing.{size_in}
+use Rattle.writer.specs.Sizing.{Sure, size_in}
 use Rattle.writer.specs.Direct.{is_list_or_map, is_arrayed}
 use Rattle.writer.specs.Filling.{fresh, beyond, kind_at, number_at, letters_at, mark_at, own_at, Ready, Stepped, Pending, Filled, value_of, element_of, One, Done, Elements, Lasts, Rows, Left, Going, going, Run, SomeLeft, Fillable}
 use Rattle.writer.specs.declared.filling.Cursor.{Cursor}
 use Rattle.writer.proofs.Tabled.{all_kinds, of_kind, other}
 use Rattle.writer.proofs.Bodies.{enclosed_width, item_wide, empty_body, kind_small}
 use Rattle.writer.proofs.Joined.{join, rows_join, text_join, marks_join, bytes_join, valid_join, deeper*}
-use Rattle.writer.proofs.Spots.{Sure, sure_inside, spot_fits, row_bytes}
+use Rattle.writer.proofs.Spots.{sure_inside, spot_fits, row_bytes}
 use Rattle.writer.proofs.Stores.{drop_sets}
 use Rattle.writer.proofs.Sums.{size_of, more_size, body_is_lem, body_size, few}
 use Rattle.writer.proofs.Onward.{two}

@@ -126,10 +126,6 @@ count_under k n = if (eqb k 0xf0) (count_in n) n
 abbrev pub spot_by : (kind number : ℕ) → Spot
 spot_by k n = if (eqb k 0xf0) (like (kind_in n)) any
 
--- does a row hold values with codes of their own
-abbrev pub holder : Style → Bool
-holder s = not (is_arrayed s) && ltb 0 (children s 1)
-
 -- what the style of a row with children says, by its kind
 pub record NestRow (s : Style) (k n : ℕ) : Type 0 where
   pub known : is_kind s ≡ true
@@ -140,7 +136,6 @@ pub record NestRow (s : Style) (k n : ℕ) : Type 0 where
   pub headed : (b : ℕ) → head_size values s k n b ≡ open_head values k b
   pub wide : T (member s) → (b : ℕ) → item_width s ≡ open_head elements k b
   pub fit : member s ≡ leb 0xd0 k
-  pub held : holder s ≡ not (eqb k 0xf0)
 
 -- kinds of rows with children: only described values are of kind 0, and only arrays of kind f0
 unfoldable pub named : ℕ → Style → Bool
@@ -178,15 +173,15 @@ nest_style (blob w) k n t h = absurd (omega arith)
 nest_style (lettered s) k n t h = absurd (omega arith)
 nest_style (listed a s) k n t h =
     let e = between k t in
-    record { known = refl; silent = refl; full = rw e.1; spot = rw e.1; marked = rw (e.0, counted n h); headed = λ b. rw (e.0, e.1, counted n h) (enclosed_width s (k % 256) n b); wide = λ m b. rw e.1; fit = sym e.2; held = rw e.1 }
+    record { known = refl; silent = refl; full = rw e.1; spot = rw e.1; marked = rw (e.0, counted n h); headed = λ b. rw (e.0, e.1, counted n h) (enclosed_width s (k % 256) n b); wide = λ m b. rw e.1; fit = sym e.2 }
 nest_style (mapped s) k n t h =
     let e = between k t in
-    record { known = refl; silent = refl; full = rw e.1; spot = rw e.1; marked = rw (e.0, counted n h); headed = λ b. rw (e.0, e.1) (enclosed_width s (k % 256) n b); wide = λ m b. rw e.1; fit = sym e.2; held = rw e.1 }
+    record { known = refl; silent = refl; full = rw e.1; spot = rw e.1; marked = rw (e.0, counted n h); headed = λ b. rw (e.0, e.1) (enclosed_width s (k % 256) n b); wide = λ m b. rw e.1; fit = sym e.2 }
 nest_style (arrayed s) k n t h =
     rw (eqb→eq k 0xf0 t)
-    (record { known = refl; silent = refl; full = refl; spot = refl; marked = rw (counted (count_in n) h); headed = λ b. array_long s 0xf0 n b; wide = λ m b. refl; fit = refl; held = refl })
+    (record { known = refl; silent = refl; full = refl; spot = refl; marked = rw (counted (count_in n) h); headed = λ b. array_long s 0xf0 n b; wide = λ m b. refl; fit = refl })
 nest_style describing k n t h =
-    rw (eqb→eq k 0 t) (record { known = refl; silent = refl; full = refl; spot = refl; marked = refl; headed = λ b. refl; wide = λ m b. absurd m; fit = refl; held = refl })
+    rw (eqb→eq k 0 t) (record { known = refl; silent = refl; full = refl; spot = refl; marked = refl; headed = λ b. refl; wide = λ m b. absurd m; fit = refl })
 
 pub nest_row : (k n : ℕ) → 0 < children (style_of k) n → NestRow (style_of k) k n
 nest_row k n = nest_style (style_of k) k n (is_named k)
@@ -214,10 +209,6 @@ empty_closed k n e = nest_case k n (bare_closed (style_of k) k n) (λ h r. go (e
     go : (a : Bool) → 0 < if a (count_in n) n → false ≡ (not a && nests (style_of k) k n)
     go true h = refl
     go false h = absurd (omega arith)
-
-pub not_open : (k n : ℕ) → Rest (kinds_onto holder kinds []) k → false ≡ opens (style_of k) k n
-unfolding opens children
-not_open k n t = nest_case k n (bare_closed (style_of k) k n) (λ h r. rw (sym r.held ∙ other holder refl k t))
 
 -- Lengths of heads
 

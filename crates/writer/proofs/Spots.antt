@@ -10,14 +10,10 @@ use Rattle.standard.specs.Kinds.{Style, foreign, numbered, blob, lettered, liste
 use Rattle.standard.specs.Table.{Spot, any, like, allowed, ranged, spot_in, Row, Valid}
 use Rattle.standard.specs.Encode.{encode, item}
 use Rattle.writer.specs.Heads.{body_of, elements, mode_of, head_in, written}
+use Rattle.writer.specs.Sizing.{Sure}
 use Rattle.writer.proofs.Bodies.{told_kind, compact_head, wide_head}
 
--- in an array of elements of a kind that arrays may hold, if in an array at all
-abbrev pub Sure : Spot → Type 0
-Sure any = Unit {0}
-Sure (like k) = T (member (style_of k))
-
--- so are the children of a row with a number in range
+-- the children of a row with a number in range are at a spot of a kind that arrays may hold, if in an array at all
 pub sure_inside : (s : Style) (k n : ℕ) → T (ranged s k n) → Sure (spot_in s n)
 unfolding spot_in
 sure_inside foreign k n t = tt

@@ -9,7 +9,7 @@ use lib.Dec.{eqb, leb}
 use lib.ListN.{length, take, drop, length-append, length-drop}
 use lib.Seq.{drop-drop, drop_at, sets}
 use Rattle.standard.specs.Choose.{if}
-use Rattle.standard.specs.Answer.{Answer, got, refuse, Place, at, byte, ◌>>=◌, ◌>>◌, need, kind_unknown, too_deep, element_unfit, number_outside, text_amiss}
+use Rattle.standard.specs.Answer.{Answer, got, refuse, Place, at, ◌>>=◌, ◌>>◌, need, kind_unknown, too_deep, element_unfit, number_outside, text_amiss}
 use Rattle.standard.specs.Bytes.{be}
 use Rattle.standard.specs.Tree.{Tree, node, Trees, none, more, rows, text, text*, tall, tall*}
 use Rattle.standard.specs.Kinds.{Style, foreign, numbered, blob, lettered, listed, mapped, arrayed, describing, style_of, is_kind, clean, good_length, count_in}
@@ -20,19 +20,15 @@ use Rattle.laws.specs.Answers.{out}
 use Rattle.laws.specs.Bounds.{rows_length}
 use Rattle.laws.specs.Numbers.{length_be}
 use Rattle.laws.specs.Stores.{sets_append, put_on}
-use Rattle.laws.specs.Tables as tables
-use Rattle.laws.specs.Tables.{tree_sound, Placed, at', several_placed, tree_placed}
+use Rattle.laws.specs.Tables.{tree_sound}
 use Rattle.writer.specs.Heads.{body_of, Mode, values, elements, mode_of, inside, written, written*}
 use Rattle.writer.specs.Marks.{mark_width, marks, marks*}
 use Rattle.writer.specs.Rows.{check}
-use Rattle.writer.specs.Sizing.{size_in, total_from, Marked, values_at, Finds, head_size, Within}
-use Rattle.standard.specs.declared.refusal.Refusal.{Refusal}
-use Rattle.writer.specs.declared.sizing.Sized.{Sized}
-use Rattle.writer.specs.declared.sizing.Sized.TheVariants.{Fits, Refused}
+use Rattle.writer.specs.Sizing.{size_in, total_from, Marked, values_at, Finds, head_size, Sure, Within}
 use Rattle.writer.specs.declared.sizing.Extent.{Extent}
 use Rattle.writer.proofs.Stores.{sets_swap}
 use Rattle.writer.proofs.Bodies.{kind_small, head_short, item_wide, item_short}
-use Rattle.writer.proofs.Spots.{Sure, sure_inside, row_bytes}
+use Rattle.writer.proofs.Spots.{sure_inside, row_bytes}
 
 -- A value is its checks and then its children
 
@@ -230,7 +226,7 @@ same p q r s = rw (p, q, r, s)
 total_step : (c : Spot) (o : Extent) (v : Tree) (a : Answer (Trees × List ℕ × List ℕ)) → total_from c (reach c o v) a ≡ total_from c o (joined v a)
 unfolding total_from tall text marks
 total_step c o v (got (vs, u, y)) =
-    ap Fits (same (omega arith) (omega (arith, length-append (text v) (text* vs))) (omega (arith, more_size (mode_of c) v vs)) (omega (arith, length-append (marks v) (marks* vs))))
+    ap got (same (omega arith) (omega (arith, length-append (text v) (text* vs))) (omega (arith, more_size (mode_of c) v vs)) (omega (arith, length-append (marks v) (marks* vs))))
 total_step c o v (refuse x p) = refl
 
 some : (v : Tree) → 0 < tall v
@@ -283,38 +279,29 @@ pub comes_on : {w x : List ℕ} {l : ℕ} {c : Spot} {o₀ o e : Extent} {n₀ n
 comes_on f g = record { within = g.within; sure = g.sure; kept = g.kept ∙ f.kept; sum = g.sum ∙ f.sum; marks = λ z y. f.marks z (g.marks z y) }
 
 -- no value is left
-pub finds_none : (w x : List ℕ) (l : ℕ) (c : Spot) (n : ℕ) (o : Extent) (b : List ℕ) → n ≤ 0 → Finds w x l c n o b b (Fits o)
+pub finds_none : (w x : List ℕ) (l : ℕ) (c : Spot) (n : ℕ) (o : Extent) (b : List ℕ) → n ≤ 0 → Finds w x l c n o b b (got o)
 unfolding total_from Marked several tall* text* marks*
-finds_none w x l c zero o b h = (ap Fits (same (omega arith) (omega arith) (omega (arith, size_none c)) (omega arith)), λ r. refl)
+finds_none w x l c zero o b h = (ap got (same (omega arith) (omega arith) (omega (arith, size_none c)) (omega arith)), λ r. refl)
 finds_none w x l c (suc n) o b h = absurd (omega arith)
 
 -- the first is refused, and with it all
-pub finds_no : (w x : List ℕ) (l : ℕ) (c : Spot) (n : ℕ) (o : Extent) (b a : List ℕ) (f : Refusal) → 0 < n → tree_at w x l c o ≡ refuse f.number (at f.place) → Finds w x l c n o b a (Refused f)
+pub finds_no : (w x : List ℕ) (l : ℕ) (c : Spot) (n : ℕ) (o : Extent) (b b₁ : List ℕ) (a : ℕ) (p : Place) → 0 < n → tree_at w x l c o ≡ refuse a p → Finds w x l c n o b b₁ (refuse a p)
 unfolding total_from Marked several
-finds_no w x l c zero o b a f h e = absurd (omega arith)
-finds_no w x l c (suc n) o b a f h e = rw e (refl, tt)
+finds_no w x l c zero o b b₁ a p h e = absurd (omega arith)
+finds_no w x l c (suc n) o b b₁ a p h e = rw e (refl, tt)
 
 -- what is found from here on is what is found from the start
-pub comes_found : {w x : List ℕ} {l : ℕ} {c : Spot} {o₀ o : Extent} {n₀ n : ℕ} {b₀ b : List ℕ} → Comes w x l c o₀ n₀ b₀ o n b → (a : List ℕ) (r : Sized) → Finds w x l c n o b a r → Finds w x l c n₀ o₀ b₀ a r
+pub comes_found : {w x : List ℕ} {l : ℕ} {c : Spot} {o₀ o : Extent} {n₀ n : ℕ} {b₀ b : List ℕ} → Comes w x l c o₀ n₀ b₀ o n b → (a : List ℕ) (r : Answer Extent) → Finds w x l c n o b a r → Finds w x l c n₀ o₀ b₀ a r
 comes_found f a r h = (h.0 ∙ f.sum, f.marks a h.1)
 
 -- a check that fails is the refusal of all
 pub check_no : (w x : List ℕ) (l : ℕ) (c : Spot) (o : Extent) (a : ℕ) (p : Place) → check_at w x l c o ≡ refuse a p → tree_at w x l c o ≡ refuse a p
 check_no w x l c o a p e = tree_checked l c o.row o.text (drop (2 * o.row) w) (drop o.text x) ∙ rw e
 
-pub no_byte : (w x : List ℕ) (l : ℕ) (c : Spot) (o : Extent) (a p : ℕ) → tree_at w x l c o ≡ refuse a (byte p) → ⊥
-no_byte w x l c o a p e = tables.no_byte (tree_placed l c o.row o.text (drop (2 * o.row) w) (drop o.text x)) e
-
-pub comes_no : {w x : List ℕ} {l : ℕ} {c : Spot} {o₀ o : Extent} {n₀ m : ℕ} {b₀ b : List ℕ} → Comes w x l c o₀ n₀ b₀ o m b → 0 < m → (a i : ℕ) → check_at w x l c o ≡ refuse a (at i)
-    → Finds w x l c n₀ o₀ b₀ b (Refused (record { number = a; place = i }))
-comes_no {w = w} {x = x} {l = l} {c = c} {o = o} {m = m} {b = b} f h a i e =
-    let r : Refusal = record { number = a; place = i } in
-    comes_found f b (Refused r) (finds_no w x l c m o b b r h (check_no w x l c o a (at i) e))
+pub comes_no : {w x : List ℕ} {l : ℕ} {c : Spot} {o₀ o : Extent} {n₀ m : ℕ} {b₀ b : List ℕ} → Comes w x l c o₀ n₀ b₀ o m b → 0 < m → (a : ℕ) (p : Place) → check_at w x l c o ≡ refuse a p → Finds w x l c n₀ o₀ b₀ b (refuse a p)
+comes_no {w = w} {x = x} {l = l} {c = c} {o = o} {m = m} {b = b} f h a p e = comes_found f b (refuse a p) (finds_no w x l c m o b b a p h (check_no w x l c o a p e))
 
 -- What an answer says of the values
-
-pub values_placed : (w x : List ℕ) (l : ℕ) (c : Spot) (n : ℕ) (o : Extent) → Placed (values_at w x l c n o)
-values_placed w x l c n o = several_placed (λ d i j u y. tree l d i j u y) (tree_placed l) n c o.row o.text (drop (2 * o.row) w) (drop o.text x)
 
 pub record Found (c : Spot) (o : Extent) (a : Answer (Trees × List ℕ × List ℕ)) (e : Extent) : Type 0 where
   pub trees : Trees
@@ -326,17 +313,17 @@ pub record Found (c : Spot) (o : Extent) (a : Answer (Trees × List ℕ × List 
   pub size : e.size ≡ o.size + size_in c trees
   pub mark : e.mark ≡ o.mark + length (marks* trees)
 
-pub found : (c : Spot) (o : Extent) (a : Answer (Trees × List ℕ × List ℕ)) (e : Extent) → Fits e ≡ total_from c o a → Found c o a e
+pub found : (c : Spot) (o : Extent) (a : Answer (Trees × List ℕ × List ℕ)) (e : Extent) → got e ≡ total_from c o a → Found c o a e
 unfolding total_from
 found c o (got (vs, u, y)) e h =
     let q : e ≡ record { row = o.row + tall* vs; text = o.text + length (text* vs); size = o.size + size_in c vs; mark = o.mark + length (marks* vs) } = cc in
     record { trees = vs; rest = u; tail = y; is_got = refl; row = ap (λ z. z.row) q; letter = ap (λ z. z.text) q; size = ap (λ z. z.size) q; mark = ap (λ z. z.mark) q }
 found c o (refuse x p) e h = let z : ◌≡◌ {A = ℕ} 0 1 = cc in absurd (omega arith)
 
-pub unfit : (c : Spot) (o : Extent) (a : Answer (Trees × List ℕ × List ℕ)) (f : Refusal) → Placed a → Refused f ≡ total_from c o a → a ≡ refuse f.number (at f.place)
+pub unfit : (c : Spot) (o : Extent) (a : Answer (Trees × List ℕ × List ℕ)) (x : ℕ) (p : Place) → refuse x p ≡ total_from c o a → a ≡ refuse x p
 unfolding total_from
-unfit c o (got (vs, u, y)) f t h = let z : ◌≡◌ {A = ℕ} 0 1 = cc in absurd (omega arith)
-unfit c o (refuse x (at p)) f at' h =
-    let q : f ≡ record { number = x; place = p } = cc in
-    rw q
-unfit c o (refuse x (byte _)) f t h = elim t [ ]
+unfit c o (got (vs, u, y)) x p h = let z : ◌≡◌ {A = ℕ} 0 1 = cc in absurd (omega arith)
+unfit c o (refuse y q) x p h =
+    let i : x ≡ y = cc in
+    let j : p ≡ q = cc in
+    rw (i, j)

@@ -8,32 +8,31 @@ use borrow.Author.Tests.{lt-ltb, eq-eqb}
 use lib.Dec.{T, eqb, eqb→eq, leb, leb→le, ltb, ltb→lt}
 use lib.ListN.{length, take, drop, length-append, length-drop}
 use lib.Seq.{sets}
+use Rattle.std.specs.Prelude.{Option, Some, None}
 use Rattle.standard.specs.Choose.{if}
-use Rattle.standard.specs.Answer.{Answer, got, refuse, at, byte, kind_unknown, element_unfit, number_outside, text_amiss}
+use Rattle.standard.specs.Answer.{Answer, got, refuse, Place, at, kind_unknown, element_unfit, number_outside, text_amiss}
 use Rattle.standard.specs.Bytes.{be}
 use Rattle.standard.specs.Tree.{Tree, node, Trees, text, text*, tall}
-use Rattle.standard.specs.Kinds.{Style, foreign, numbered, blob, lettered, listed, mapped, arrayed, describing, style_of, is_kind, clean, good_length, count_in, kind_in}
+use Rattle.standard.specs.Kinds.{Style, foreign, numbered, blob, lettered, listed, mapped, arrayed, describing, style_of, is_kind, member, clean, good_length, count_in, kind_in}
 use Rattle.standard.specs.Table.{most, Spot, any, like, allowed, naming, ranged, letters, children, spot_in, Row, Valid}
-use Rattle.standard.specs.Encode.{short_end}
+use Rattle.standard.specs.Encode.{short_end, shortest}
 use Rattle.standard.specs.Facts.{if_case, T_true, and_left, and_right, clean_nil}
 use Rattle.laws.specs.Answers.{Holds, yes', no', on, need_holds, out}
 use Rattle.laws.specs.Numbers.{length_be}
 use Rattle.writer.specs.Heads.{head, item_width, body_of, Mode, values, mode_of}
 use Rattle.writer.specs.Marks.{mark_width, marks, marks*}
 use Rattle.writer.specs.Rows.{check}
-use Rattle.writer.specs.Sizing.{Marked, Finds, head_size, nests, opens, arrays, number_size, text_size, letters_size, chosen, taken_of, Nest, Nested, begin, past, beyond, passed, inside, open_head, closed, MarkPut, Within, Small}
-use Rattle.standard.specs.declared.refusal.Refusal.{Refusal}
-use Rattle.writer.specs.declared.sizing.Sized.{Sized}
-use Rattle.writer.specs.declared.sizing.Sized.TheVariants.{Fits, Refused}
+use Rattle.writer.specs.Sizing.{Marked, Finds, head_size, nests, opens, arrays, children_spot, children_count, some_at, children_is, parent_of, Sure, number_size, text_size, LeafRow, Seen, Leaf, Family, Bare, Told, Nested, begin, past, beyond, passed, inside, open_head, closed, MarkPut, Within, Small}
+use Rattle.writer.specs.declared.sizing.Children.{Children}
 use Rattle.writer.specs.declared.sizing.Taken.{Taken}
-use Rattle.writer.specs.declared.sizing.Taken.TheVariants.{Number, Letters, Open, Array, Other}
+use Rattle.writer.specs.declared.sizing.Taken.TheVariants.{Number, Letters, Parent}
 use Rattle.writer.specs.declared.sizing.Extent.{Extent}
 use Rattle.writer.proofs.Bodies.{item_wide}
 use Rattle.writer.proofs.Checks.{check_good}
 use Rattle.writer.proofs.Direct.{coded_long}
-use Rattle.writer.proofs.Sizes.{count_under, spot_by, NestRow, nest_row, nest_head, nest_case, bare_closed}
-use Rattle.writer.proofs.Spots.{Sure, sure_inside, element_fits}
-use Rattle.writer.proofs.Sums.{tree_at, check_at, under, below, value_is, check_no, size_of, reach, body_size, row_size, few, widths, marked_node, same, Comes, value_sound, value_within, value_comes, comes_on, comes_found, comes_no, no_byte, finds_none, finds_no, Found, found, values_placed, unfit}
+use Rattle.writer.proofs.Sizes.{NestRow, nest_row, nest_head, nest_case, bare_closed}
+use Rattle.writer.proofs.Spots.{sure_inside, element_fits}
+use Rattle.writer.proofs.Sums.{tree_at, check_at, under, below, value_is, check_no, size_of, reach, body_size, row_size, few, widths, marked_node, same, Comes, value_sound, value_within, value_comes, comes_on, comes_found, comes_no, finds_none, finds_no, Found, found, unfit}
 
 -- What a good row says
 pub record Good (l : ℕ) (c : Spot) (w : List ℕ) (k n : ℕ) : Type 0 where
@@ -90,11 +89,11 @@ module _ {w x : List ℕ} {l : ℕ} {c : Spot} {o₀ o : Extent} {n₀ m : ℕ} 
   is_good = good l c o.row o.text (drop (2 * o.row) w) (drop o.text x) k n q
 
   -- z is what is found of its children
-  module _ (b₁ : List ℕ) (kept : length b₁ ≡ length b) (z : Sized) (r : Finds w x (l - 1) (spot_in (style_of k) n) (children (style_of k) n) (under o k n) b b₁ z) where
-    turn_no : (f : Refusal) → z ≡ Refused f → Finds w x l c n₀ o₀ b₀ b₁ (Refused f)
-    turn_no f e = comes_found y b₁ (Refused f) (finds_no w x l c m o b b₁ f h (value_is w x l c o k n q ∙ rw (unfit (spot_in (style_of k) n) (under o k n) (below w x l o k n) f (values_placed w x (l - 1) (spot_in (style_of k) n) (children (style_of k) n) (under o k n)) (sym e ∙ r.0))))
+  module _ (b₁ : List ℕ) (kept : length b₁ ≡ length b) (z : Answer Extent) (r : Finds w x (l - 1) (spot_in (style_of k) n) (children (style_of k) n) (under o k n) b b₁ z) where
+    turn_no : (a : ℕ) (p : Place) → z ≡ refuse a p → Finds w x l c n₀ o₀ b₀ b₁ (refuse a p)
+    turn_no a p e = comes_found y b₁ (refuse a p) (finds_no w x l c m o b b₁ a p h (value_is w x l c o k n q ∙ rw (unfit (spot_in (style_of k) n) (under o k n) (below w x l o k n) a p (sym e ∙ r.0))))
 
-    module _ (e : Extent) (fits : z ≡ Fits e) where
+    module _ (e : Extent) (fits : z ≡ got e) where
       inner : Found (spot_in (style_of k) n) (under o k n) (below w x l o k n) e
       inner = found (spot_in (style_of k) n) (under o k n) (below w x l o k n) e (sym fits ∙ r.0)
 
@@ -143,53 +142,68 @@ module _ {w x : List ℕ} {l : ℕ} {c : Spot} {o₀ o : Extent} {n₀ m : ℕ} 
     leaf_on =
         let r = finds_none w x (l - 1) (spot_in (style_of k) n) (children (style_of k) n) (under o k n) b (omega arith) in
         let e : mark_width (style_of k) n ≡ 0 = (widths (style_of k) n).1 i in
-        rw leaf_at at (turn_on b refl (Fits (under o k n)) r (under o k n) refl b (λ v. rw e) refl)
+        rw leaf_at at (turn_on b refl (got (under o k n)) r (under o k n) refl b (λ v. rw e) refl)
 
-  -- it has children
-  module _ (i : 0 < children (style_of k) n) where
-    nest : NestRow (style_of k) k n
-    nest = nest_row k n i
+-- the next row has children, as taking it told
+module _ {w x : List ℕ} {l : ℕ} {c : Spot} {o₀ o : Extent} {n₀ m : ℕ} {b₀ b : List ℕ} (y : Comes w x l c o₀ n₀ b₀ o m b) (h : 0 < m) (k : ℕ) (cs : Children) (f : Family l c (drop (2 * o.row) w) k cs) where
+  passes : check_at w x l c o ≡ got (k, f.number)
+  passes = f.checks o.row o.text (drop o.text x)
 
-    -- the place of the first of them
-    pub nest_first : Within w x (inside o k) × (0 < l) × (0 < count_under k n)
-    nest_first =
-        let g = y.within in
-        (record { rows = omega (arith, g.rows, ap length is_good.words, length-drop (2 * o.row) w); letters = g.letters; marked = omega (arith, g.marked, few 3 k); small = omega arith }, is_good.level, omega (arith, nest.full))
+  nest : NestRow (style_of k) k f.number
+  nest = nest_row k f.number (omega (arith, f.full, f.some))
 
-    pub nest_sure : Sure (spot_by k n)
-    nest_sure = rw (← nest.spot) (sure_inside (style_of k) k n is_good.in_range)
+  -- the place of the first of them
+  pub nest_first : Within w x (inside o k) × (0 < l) × (0 < children_count cs) × Sure (children_spot cs)
+  nest_first =
+      let g = y.within in
+      let q = is_good y h k f.number passes in
+      (
+        record { rows = omega (arith, g.rows, ap length q.words, length-drop (2 * o.row) w); letters = g.letters; marked = omega (arith, g.marked, few 3 k); small = omega arith },
+        q.level,
+        f.some,
+        rw (← f.spot) (sure_inside (style_of k) k f.number q.in_range),
+      )
 
-    -- z is what is found of them
-    module _ (b₁ : List ℕ) (kept : length b₁ ≡ length b) (z : Sized) (r : Finds w x (l - 1) (spot_by k n) (count_under k n) (inside o k) b b₁ z) where
-      nest_finds : Finds w x (l - 1) (spot_in (style_of k) n) (children (style_of k) n) (under o k n) b b₁ z
-      nest_finds = let j : o.text + 0 ≡ o.text = omega arith in rw (nest.spot, nest.full, nest.silent, nest.marked, j) r
+  -- z is what is found of them
+  module _ (b₁ : List ℕ) (kept : length b₁ ≡ length b) (z : Answer Extent) (r : Finds w x (l - 1) (children_spot cs) (children_count cs) (inside o k) b b₁ z) where
+    nest_finds : Finds w x (l - 1) (spot_in (style_of k) f.number) (children (style_of k) f.number) (under o k f.number) b b₁ z
+    nest_finds = let j : o.text + 0 ≡ o.text = omega arith in rw (f.spot, f.full, nest.silent, nest.marked, j) r
 
-      pub nest_no : (f : Refusal) → z ≡ Refused f → Finds w x l c n₀ o₀ b₀ b₁ (Refused f)
-      nest_no = turn_no b₁ kept z nest_finds
+    pub nest_no : (a : ℕ) (p : Place) → z ≡ refuse a p → Finds w x l c n₀ o₀ b₀ b₁ (refuse a p)
+    nest_no = turn_no y h k f.number passes b₁ kept z nest_finds
 
-      -- its head has d bytes
-      module _ (e : Extent) (fits : z ≡ Fits e) (d : ℕ) (ed : d ≡ open_head (mode_of c) k e.size) where
-        nest_at : after (mode_of c) o k n e ≡ closed o d e.size e
-        nest_at = same refl refl (rw (nest_head nest (mode_of c) (element_fits c k y.sure is_good.fits) e.size, ← ed) (omega (arith, nest.silent))) refl
+    -- its head has d bytes
+    module _ (e : Extent) (fits : z ≡ got e) where
+      pub nest_body : length w * 8 < 2 ^ 63 → length x * 1 < 2 ^ 63 → (e.size + 1 < 2 ^ 64) × (o.mark + 3 < 2 ^ 64)
+      nest_body s t =
+          let v = turn_within y h k f.number passes b₁ kept z nest_finds e fits in
+          (omega (arith, v.small, v.rows, v.letters), (small y.within s t).mark)
 
-        pub nest_sums : length w * 8 < 2 ^ 63 → length x * 1 < 2 ^ 63 → (e.size + 1 < 2 ^ 64) × (o.size + (d + e.size) < 2 ^ 64) × (o.mark + 3 < 2 ^ 64)
+      module _ (d : ℕ) (ed : d ≡ open_head (mode_of c) k e.size) where
+        nest_at : after (mode_of c) o k f.number e ≡ closed o d e.size e
+        nest_at = same refl refl (rw (nest_head nest (mode_of c) (element_fits c k y.sure (is_good y h k f.number passes).fits) e.size, ← ed) (omega (arith, nest.silent))) refl
+
+        pub nest_sums : length w * 8 < 2 ^ 63 → length x * 1 < 2 ^ 63 → (o.size + (d + e.size) < 2 ^ 64) × (o.mark + 3 < 2 ^ 64)
         nest_sums s t =
-            let v = turn_within b₁ kept z nest_finds e fits in
-            (omega (arith, v.small, v.rows, v.letters), (small (subst (Within w x) nest_at v) s t).size, (small y.within s t).mark)
+            let v = turn_within y h k f.number passes b₁ kept z nest_finds e fits in
+            ((small (subst (Within w x) nest_at v) s t).size, (small y.within s t).mark)
 
         pub nest_on : (b₂ : List ℕ) → MarkPut b₁ o.mark k e.size b₂ → length b₂ ≡ length b₁ → Comes w x l c o₀ n₀ b₀ (closed o d e.size e) (m - 1) b₂
-        nest_on b₂ put s = rw nest_at at (turn_on b₁ kept z nest_finds e fits b₂ (rw nest.marked put) s)
+        nest_on b₂ put s = rw nest_at at (turn_on y h k f.number passes b₁ kept z nest_finds e fits b₂ (rw nest.marked put) s)
 
 -- Which a row is
 
--- one that has children, its number in range, is good if it is allowed
-nest_good : (l : ℕ) (c : Spot) (k n : ℕ) (w : List ℕ) → 0 < l → (NestRow (style_of k) k n → allowed c k ≡ true) → true ≡ nests (style_of k) k n → Nest l c (k ∷ n ∷ w) k n
+nests_some : (k n : ℕ) → nests (style_of k) k n ≡ true → 0 < children (style_of k) n
 unfolding nests
-nest_good l c k n w h a e =
-    let t = ltb→lt 0 (children (style_of k) n) (and_left (ltb 0 (children (style_of k) n)) (ranged (style_of k) k n) (rw (← e) tt)) in
-    let d = T_true _ (and_right (ltb 0 (children (style_of k) n)) (ranged (style_of k) k n) (rw (← e) tt)) in
-    let r = nest_row k n t in
-    (λ i j x. check_good c i j k n w x r.known (a r) d l h (rw r.silent (omega arith)) (rw r.silent (clean_nil k)), t)
+nests_some k n e = ltb→lt 0 (children (style_of k) n) (and_left (ltb 0 (children (style_of k) n)) (ranged (style_of k) k n) (rw e tt))
+
+-- one that has children, its number in range, is good if it is allowed
+nest_good : (l : ℕ) (c : Spot) (k n : ℕ) (w : List ℕ) → 0 < l → allowed c k ≡ true → nests (style_of k) k n ≡ true → (i j : ℕ) (x : List ℕ) → check l c i j (k ∷ n ∷ w) x ≡ got (k, n)
+unfolding nests
+nest_good l c k n w h a e i j x =
+    let d = T_true _ (and_right (ltb 0 (children (style_of k) n)) (ranged (style_of k) k n) (rw e tt)) in
+    let r = nest_row k n (nests_some k n e) in
+    check_good c i j k n w x r.known a d l h (rw r.silent (omega arith)) (rw r.silent (clean_nil k))
 
 -- and one that has none, or whose number is not in range, has none if it is good
 nest_bare : (l : ℕ) (c : Spot) (k n : ℕ) (w : List ℕ) → false ≡ nests (style_of k) k n → (i o : ℕ) (x : List ℕ) (j m : ℕ) → check l c i o (k ∷ n ∷ w) x ≡ got (j, m) → children (style_of j) m ≡ 0
@@ -200,65 +214,63 @@ nest_bare l c k n w e i o x j m q =
     let b : n ≡ m = cc in
     nest_case j m (λ z. z) (λ h r. absurd (subst T (sym (rw (a, b, lt-ltb 0 (children (style_of j) m) h, T_true (ranged (style_of j) j m) g.in_range) at e)) tt))
 
-both : (a b : Bool) → (a && b) ≡ true → true ≡ b
-both a b e = sym (T_true b (and_right a b (rw e tt)))
+-- A row by its kind and number
 
--- an array has children, and what is no array is open if it has any
-pub array_nests : (s : Style) (k n : ℕ) → arrays s k n ≡ true → true ≡ nests s k n
-unfolding arrays
-array_nests s k n = both (eqb k 0xf0) (nests s k n)
+spot_back : Option (Spot × ℕ) → Spot
+spot_back None = any
+spot_back (Some q) = q.0
 
-pub open_nests : (s : Style) (k n : ℕ) (r : Bool) → r ≡ opens s k n → arrays s k n ≡ false → r ≡ nests s k n
-unfolding opens arrays
-open_nests s k n r = go (eqb k 0xf0) (nests s k n)
+count_back : Option (Spot × ℕ) → ℕ
+count_back None = 0
+count_back (Some q) = q.1
+
+-- values with codes of their own
+pub open_parent : (k n : ℕ) → true ≡ opens (style_of k) k n → some_at any n ≡ parent_of (style_of k) k n
+unfolding opens parent_of nests
+open_parent k n e = nest_case k n (λ z. let q = bare_closed (style_of k) k n z in cc) (λ h r. go (eqb k 0xf0) refl r e)
   where
-    go : (a b : Bool) → r ≡ (not a && b) → (a && b) ≡ false → r ≡ b
-    go true b e f = e ∙ sym f
-    go false b e f = e
+    go : (a : Bool) → eqb k 0xf0 ≡ a → NestRow (style_of k) k n → true ≡ (not a && nests (style_of k) k n) → some_at any n ≡ if (nests (style_of k) k n) (some_at (spot_in (style_of k) n) (children (style_of k) n)) None
+    go true p r e = cc
+    go false p r e = rw (← e, r.spot, r.full, p)
 
--- An element of an array that tells the kind j
+-- or else the elements of an array
+pub array_parent : (k n : ℕ) (r : Option (Spot × ℕ)) → false ≡ opens (style_of k) k n → r ≡ if (arrays (style_of k) k n) (some_at (like (kind_in n)) (count_in n)) None → r ≡ parent_of (style_of k) k n
+unfolding opens arrays parent_of
+array_parent k n r e f = f ∙ go (eqb k 0xf0) (nests (style_of k) k n) refl refl e
+  where
+    go : (a b : Bool) → eqb k 0xf0 ≡ a → nests (style_of k) k n ≡ b → false ≡ (not a && b) → if (a && b) (some_at (like (kind_in n)) (count_in n)) None ≡ if b (some_at (spot_in (style_of k) n) (children (style_of k) n)) None
+    go true true p q g = let t = nest_row k n (nests_some k n q) in rw (t.spot, t.full, p)
+    go true false p q g = refl
+    go false true p q g = cc
+    go false false p q g = refl
 
-pub element_low : (l j : ℕ) (w : List ℕ) → j < 0xd0 → Nested l (like j) w 0 0 false
-unfolding allowed
-element_low l j w h i o x k n q t =
-    let e : k ≡ j = eqb→eq k j (good l (like j) i o w x k n q).fits in
-    nest_case k n (λ z. z) (λ i r. absurd (omega (arith, leb→le 0xd0 k (subst T r.fit t))))
+pub not_parent : (s : Style) (k n : ℕ) → None ≡ parent_of s k n → nests s k n ≡ false
+unfolding parent_of
+not_parent s k n = go (nests s k n)
+  where
+    go : (b : Bool) → None ≡ if b (some_at (spot_in s n) (children s n)) None → b ≡ false
+    go true e = cc
+    go false e = refl
 
--- a good one is of that kind
-pub nest_told : (l j : ℕ) (w : List ℕ) (k n : ℕ) → Nest l (like j) w k n → Nest l (like j) w j n
-unfolding allowed
-nest_told l j w k n h = subst (λ (i : ℕ). Nest l (like j) w i n) (eqb→eq k j (good l (like j) 0 0 w [] k n (h.0 0 0 [])).fits) h
-
--- in front of words
-module _ (l j k n : ℕ) (w : List ℕ) where
-  pub element_unlike : ¬ (k ≡ j) → Nested l (like j) (k ∷ n ∷ w) k n false
-  unfolding allowed
-  element_unlike f i o x k₁ n₁ q t =
-      let g = good l (like j) i o (k ∷ n ∷ w) x k₁ n₁ q in
-      let a : k₁ ≡ k = cc in
-      absurd (f (sym a ∙ eqb→eq k₁ j g.fits))
-
-  pub element_is : k ≡ j → 0 < l → (r : Bool) → r ≡ nests (style_of k) k n → Nested l (like j) (k ∷ n ∷ w) k n r
-  unfolding allowed
-  element_is f h true g = nest_good l (like j) k n w h (λ r. eq-eqb k j f) g
-  element_is f h false g = λ i o x k₁ n₁ q t. nest_bare l (like j) k n w g i o x k₁ n₁ q
-
--- A number, or letters: a row without children with y bytes of text, which takes z bytes
-pub record LeafRow (s : Style) (k n : ℕ) (x : List ℕ) (y z : ℕ) : Type 0 where
-  known : is_kind s ≡ true
-  in_range : ranged s k n ≡ true
-  pub worded : y ≡ letters s n
-  enough : y ≤ length x
-  clear : clean k (take y x) ≡ true
-  pub barren : children s n ≡ 0
-  pub sized : z ≡ head_size values s k n 0 + y
+-- a row with children in front of words, where it may stand
+pub parent_family : (l : ℕ) (c : Spot) (k n : ℕ) (w : List ℕ) (cs : Children) → 0 < l → allowed c k ≡ true → some_at (children_spot cs) (children_count cs) ≡ parent_of (style_of k) k n → Family l c (k ∷ n ∷ w) k cs
+unfolding parent_of spot_back count_back
+parent_family l c k n w cs h a = go (nests (style_of k) k n) refl
+  where
+    go : (b : Bool) → nests (style_of k) k n ≡ b → some_at (children_spot cs) (children_count cs) ≡ if b (some_at (spot_in (style_of k) n) (children (style_of k) n)) None → Family l c (k ∷ n ∷ w) k cs
+    go true p e =
+        let i : children_spot cs ≡ spot_in (style_of k) n = ap spot_back e in
+        let j : children_count cs ≡ children (style_of k) n = ap count_back e in
+        record { number = n; checks = nest_good l c k n w h a p; spot = sym i; full = sym j; some = rw j (nests_some k n p) }
+    go false p e = cc
 
 -- a good text and its length
-text_row : (s k n : ℕ) (x : List ℕ) → 0 < text_size k n x → LeafRow (lettered s) k n x n (text_size k n x)
+pub letters_leaf : (s k n z : ℕ) (x : List ℕ) → Some z ≡ text_size k n x → LeafRow (lettered s) k n x n z
 unfolding text_size is_kind ranged letters children head
-text_row s k n x h = if_case (λ (z : ℕ). 0 < z → LeafRow (lettered s) k n x n z) (leb n most && (leb n (length x) && clean k (take n x))) _ 0
+letters_leaf s k n z x h = if_case (λ (o : Option ℕ). Some z ≡ o → LeafRow (lettered s) k n x n z) (leb n most && (leb n (length x) && clean k (take n x))) (Some (if (ltb n short_end) 2 5 + n)) None
     (λ t i.
     let u = and_right (leb n most) (leb n (length x) && clean k (take n x)) t in
+    let j : z ≡ if (ltb n short_end) 2 5 + n = cc in
     record {
       known = refl;
       in_range = T_true _ (and_left (leb n most) (leb n (length x) && clean k (take n x)) t);
@@ -266,91 +278,86 @@ text_row s k n x h = if_case (λ (z : ℕ). 0 < z → LeafRow (lettered s) k n x
       enough = leb→le n (length x) (and_left (leb n (length x)) (clean k (take n x)) u);
       clear = T_true _ (and_right (leb n (length x)) (clean k (take n x)) u);
       barren = refl;
-      sized = ap (λ (z : ℕ). z + n) (sym (long (ltb n short_end)));
-    }) (λ t i. absurd (omega arith)) h
+      sized = j ∙ ap (λ (z : ℕ). z + n) (sym (long (ltb n short_end)));
+    }) (λ t i. cc) h
   where
     long : (t : Bool) → length (if t (s ∷ be 1 n) ((k % 256) ∷ be 4 n)) ≡ if t 2 5
     long true = coded_long s 1 n
     long false = coded_long (k % 256) 4 n
 
-leaf_row_lem : (s : Style) (k n : ℕ) (x : List ℕ) → (0 < number_size s k n → LeafRow s k n x 0 (number_size s k n)) × (0 < letters_size s k n x → LeafRow s k n x n (letters_size s k n x))
-unfolding number_size letters_size is_kind letters children head
-leaf_row_lem foreign k n x = (λ h. absurd (omega arith), λ h. absurd (omega arith))
-leaf_row_lem (numbered s w) k n x = (
-  if_case (λ (z : ℕ). 0 < z → LeafRow (numbered s w) k n x 0 z) (ranged (numbered s w) k n) _ 0
-      (λ t i. record { known = refl; in_range = T_true _ t; worded = refl; enough = omega arith; clear = clean_nil k; barren = refl; sized = omega arith }) (λ t i. absurd (omega arith)),
-  λ h. absurd (omega arith),
-)
-leaf_row_lem (blob w) k n x = (λ h. absurd (omega arith), λ h. absurd (omega arith))
-leaf_row_lem (lettered s) k n x = (λ h. absurd (omega arith), text_row s k n x)
-leaf_row_lem (listed a s) k n x = (λ h. absurd (omega arith), λ h. absurd (omega arith))
-leaf_row_lem (mapped s) k n x = (λ h. absurd (omega arith), λ h. absurd (omega arith))
-leaf_row_lem (arrayed s) k n x = (λ h. absurd (omega arith), λ h. absurd (omega arith))
-leaf_row_lem describing k n x = (λ h. absurd (omega arith), λ h. absurd (omega arith))
+number_row : (s : Style) (k n z : ℕ) (x : List ℕ) → Some z ≡ number_size s k n → LeafRow s k n x 0 z
+unfolding number_size is_kind letters children head
+number_row foreign k n z x h = cc
+number_row (numbered s w) k n z x h =
+    if_case (λ (o : Option ℕ). Some z ≡ o → LeafRow (numbered s w) k n x 0 z) (ranged (numbered s w) k n) (Some (length (shortest s w (k % 256) n))) None
+    (λ t i. let j : z ≡ length (shortest s w (k % 256) n) = cc in record { known = refl; in_range = T_true _ t; worded = refl; enough = omega arith; clear = clean_nil k; barren = refl; sized = j ∙ omega arith }) (λ t i. cc) h
+number_row (blob w) k n z x h = cc
+number_row (lettered s) k n z x h = cc
+number_row (listed a s) k n z x h = cc
+number_row (mapped s) k n z x h = cc
+number_row (arrayed s) k n z x h = cc
+number_row describing k n z x h = cc
 
--- such a row in front of words
-pub record Leaf (l : ℕ) (w x : List ℕ) (y z : ℕ) : Type 0 where
-  pub kind : ℕ
-  pub number : ℕ
-  pub checks : (i j : ℕ) → check l any i j w x ≡ got (kind, number)
-  pub row : LeafRow (style_of kind) kind number x y z
+pub number_leaf : (k n z : ℕ) (x : List ℕ) → Some z ≡ number_size (style_of k) k n → LeafRow (style_of k) k n x 0 z
+number_leaf k n z x = number_row (style_of k) k n z x
 
-leaf : (l k n : ℕ) (w x : List ℕ) (y z : ℕ) → 0 < l → LeafRow (style_of k) k n x y z → Leaf l (k ∷ n ∷ w) x y z
+-- In front of words
+
+pub leaf : (l k n : ℕ) (w x : List ℕ) (y z : ℕ) → 0 < l → LeafRow (style_of k) k n x y z → Leaf l (k ∷ n ∷ w) x y z
 unfolding allowed
 leaf l k n w x y z h r =
     record { kind = k; number = n; checks = λ i j. check_good any i j k n w x r.known refl r.in_range l h (rw (← r.worded) r.enough) (rw (← r.worded) r.clear); row = r }
 
--- What taking a row tells of it
-abbrev pub Told : (l : ℕ) (w x : List ℕ) → Taken → Type 0
-Told l w x (Number z) = Leaf l w x 0 z
-Told l w x (Letters y z) = Leaf l w x y z
-Told l w x (Open k n) = Nest l any w k n × (eqb k 0xf0 ≡ false)
-Told l w x (Array j c) = (n : ℕ) × Nest l any w 0xf0 n × (kind_in n ≡ j) × (count_in n ≡ c)
-Told l w x Other = (i j : ℕ) (x : List ℕ) (k n : ℕ) → check l any i j w x ≡ got (k, n) → children (style_of k) n ≡ 0
+pub seen_told : (l k n : ℕ) (w x : List ℕ) → 0 < l → (t : Option Taken) → Seen k n x t → Told l (k ∷ n ∷ w) x t
+unfolding allowed
+seen_told l k n w x h None s = nest_bare l any k n w (sym s)
+seen_told l k n w x h (Some (Number z)) s = leaf l k n w x 0 z h s
+seen_told l k n w x h (Some (Letters y z)) s = leaf l k n w x y z h s
+seen_told l k n w x h (Some (Parent j cs)) s = rw s.0 (parent_family l any k n w cs h refl s.1)
 
-not_T : (b : Bool) → T (not b) → b ≡ false
-not_T true t = absurd t
-not_T false t = refl
+-- where no level is left, no row, or none of a kind, no good row has children
+pub bare_deep : (l : ℕ) (c : Spot) (w : List ℕ) → l ≡ 0 → Bare l c w
+bare_deep l c w e = λ i j x k n q. absurd (omega (arith, (good l c i j w x k n q).level, e))
 
-told : (l : ℕ) (w x : List ℕ) → Told l w x (taken_of l w x)
-unfolding taken_of opens arrays allowed
-told zero w x = λ i j y k n q. absurd (omega (arith, (good zero any i j w y k n q).level))
-told (suc l) [] x = λ i j y k n q. absurd (omega (arith, ap length (good (suc l) any i j [] y k n q).words))
-told (suc l) (a ∷ []) x = λ i j y k n q. absurd (omega (arith, ap length (good (suc l) any i j (a ∷ []) y k n q).words))
-told (suc l) (k ∷ n ∷ w) x =
-    let s = style_of k in
-    let P : Taken → Type 0 = Told (suc l) (k ∷ n ∷ w) x in
-    if_case P (opens s k n) _ _ (λ t. (nest_good (suc l) any k n w (omega arith) (λ r. refl) (both (not (eqb k 0xf0)) (nests s k n) (T_true _ t)), not_T (eqb k 0xf0) (and_left (not (eqb k 0xf0)) (nests s k n) t)))
-    (λ t. if_case P (ltb 0 (number_size s k n)) _ _ (λ u. leaf (suc l) k n w x 0 (number_size s k n) (omega arith) ((leaf_row_lem s k n x).0 (ltb→lt 0 (number_size s k n) u)))
-    (λ u. if_case P (ltb 0 (letters_size s k n x)) _ _ (λ v. leaf (suc l) k n w x n (letters_size s k n x) (omega arith) ((leaf_row_lem s k n x).1 (ltb→lt 0 (letters_size s k n x) v)))
-    (λ v. if_case P (arrays s k n) _ _ (λ y. (n, subst (λ (j : ℕ). Nest (suc l) any (k ∷ n ∷ w) j n) (eqb→eq k 0xf0 (and_left (eqb k 0xf0) (nests s k n) y)) (nest_good (suc l) any k n w (omega arith) (λ r. refl) (array_nests s k n (T_true _ y))), refl, refl))
-    (λ y. nest_bare (suc l) any k n w (open_nests s k n false (sym (not_T (opens s k n) t)) (not_T (arrays s k n) y))))))
+pub bare_missing : (l : ℕ) (c : Spot) (w : List ℕ) → length w < 2 → Bare l c w
+bare_missing l c w h = λ i j x k n q. absurd (omega (arith, ap length (good l c i j w x k n q).words, h))
 
-pub told_as : (l : ℕ) (w x : List ℕ) (t : Taken) → taken_of l w x ≡ t → Told l w x t
-told_as l w x t e = subst (Told l w x) e (told l w x)
+strange_nests : (s : Style) (k n : ℕ) → is_kind s ≡ false → false ≡ nests s k n
+unfolding is_kind nests children
+strange_nests foreign k n h = refl
+strange_nests (numbered t w) k n h = refl
+strange_nests (blob w) k n h = refl
+strange_nests (lettered t) k n h = refl
+strange_nests (listed e t) k n h = cc
+strange_nests (mapped t) k n h = cc
+strange_nests (arrayed t) k n h = cc
+strange_nests describing k n h = cc
 
--- What is taken, by what was found of the row
+pub bare_strange : (l : ℕ) (c : Spot) (k n : ℕ) (w : List ℕ) → is_kind (style_of k) ≡ false → Bare l c (k ∷ n ∷ w)
+bare_strange l c k n w e = nest_bare l c k n w (strange_nests (style_of k) k n e)
 
-pub taken_deep : (l : ℕ) (w x : List ℕ) → l ≡ 0 → Other ≡ taken_of l w x
-unfolding taken_of
-taken_deep l w x e = rw e
+-- an element of an array that tells the kind j
 
-pub taken_missing : (l : ℕ) (w x : List ℕ) → length w < 2 → Other ≡ taken_of l w x
-unfolding taken_of
-taken_missing zero w x h = refl
-taken_missing (suc l) [] x h = refl
-taken_missing (suc l) (k ∷ []) x h = refl
-taken_missing (suc l) (k ∷ n ∷ w) x h = absurd (omega arith)
+pub bare_low : (l j : ℕ) (w : List ℕ) → T (member (style_of j)) → j < 0xd0 → Bare l (like j) w
+unfolding allowed
+bare_low l j w t h i o x k n q =
+    let e : k ≡ j = eqb→eq k j (good l (like j) i o w x k n q).fits in
+    nest_case k n (λ z. z) (λ i r. absurd (omega (arith, leb→le 0xd0 j (subst T (rw e at r.fit) t))))
 
-pub taken_is : (l k n : ℕ) (w x : List ℕ) → 0 < l → (b : Bool) → b ≡ opens (style_of k) k n → (z : ℕ) → z ≡ number_size (style_of k) k n → (y : ℕ) → y ≡ letters_size (style_of k) k n x → (a : Bool) → a ≡ arrays (style_of k) k n → (t : Taken) → t ≡ chosen b z y a k n
-    → t ≡ taken_of l (k ∷ n ∷ w) x
-unfolding taken_of
-taken_is zero k n w x h b e z f y i a j t g = absurd (omega arith)
-taken_is (suc l) k n w x h b e z f y i a j t g = g ∙ rw (e, f, i, j)
+pub bare_unlike : (l j k n : ℕ) (w : List ℕ) → ¬ (k ≡ j) → Bare l (like j) (k ∷ n ∷ w)
+unfolding allowed
+bare_unlike l j k n w f i o x k₁ n₁ q =
+    let g = good l (like j) i o (k ∷ n ∷ w) x k₁ n₁ q in
+    let a : k₁ ≡ k = cc in
+    absurd (f (sym a ∙ eqb→eq k₁ j g.fits))
 
--- a number is not open
-pub taken_plain : (l k n : ℕ) (w x : List ℕ) → 0 < l → (z : ℕ) → z ≡ number_size (style_of k) k n → 0 < z → Number z ≡ taken_of l (k ∷ n ∷ w) x
-taken_plain l k n w x h z e i = taken_is l k n w x h false (bare_closed (style_of k) k n ((leaf_row_lem (style_of k) k n []).0 (omega (arith, e))).barren) z e _ refl _ refl (Number z) (rw (lt-ltb 0 z i))
+pub like_self : (k : ℕ) → allowed (like k) k ≡ true
+unfolding allowed
+like_self k = eq-eqb k k refl
+
+pub nested_is : (l k n : ℕ) (w : List ℕ) → 0 < l → (cs : Option Children) → children_is cs ≡ parent_of (style_of k) k n → Nested l k (k ∷ n ∷ w) cs
+nested_is l k n w h None e = nest_bare l (like k) k n w (sym (not_parent (style_of k) k n e))
+nested_is l k n w h (Some cs) e = parent_family l (like k) k n w cs h (like_self k) e
 
 -- Values without children
 
@@ -358,31 +365,31 @@ pub values_leaf : {w x : List ℕ} {l : ℕ} {o₀ o : Extent} {n₀ m : ℕ} {b
 unfolding mode_of
 values_leaf {o = o} y h u z f = leaf_on y h f.kind f.number (f.checks o.row o.text) f.row.barren u z f.row.worded f.row.sized
 
--- what is said of another row: the place behind it, or its refusal
-abbrev pub Rowed : (w x : List ℕ) → (l : ℕ) → Extent → (n : ℕ) → (b₀ : List ℕ) → (m : ℕ) → (b : List ℕ) → Sized → Type 0
-Rowed w x l o₀ n₀ b₀ m b (Fits e) = Comes w x l any o₀ n₀ b₀ e (m - 1) b
-Rowed w x l o₀ n₀ b₀ m b (Refused f) = Finds w x l any n₀ o₀ b₀ b (Refused f)
-
-module _ {w x : List ℕ} {l : ℕ} {o₀ o : Extent} {n₀ m : ℕ} {b₀ b : List ℕ} (y : Comes w x l any o₀ n₀ b₀ o m b) (h : 0 < m) (t : taken_of l (drop (2 * o.row) w) (drop o.text x) ≡ Other) where
+-- a row of which nothing was told: the place behind it, or its refusal
+module _ {w x : List ℕ} {l : ℕ} {o₀ o : Extent} {n₀ m : ℕ} {b₀ b : List ℕ} (y : Comes w x l any o₀ n₀ b₀ o m b) (h : 0 < m) (t : Bare l any (drop (2 * o.row) w)) where
   pub other_on : (k n : ℕ) → check_at w x l any o ≡ got (k, n) → Comes w x l any o₀ n₀ b₀ (beyond values o k n) (m - 1) b
   unfolding mode_of
-  other_on k n q = leaf_on y h k n q (told_as l (drop (2 * o.row) w) (drop o.text x) Other t o.row o.text (drop o.text x) k n q) _ _ refl refl
+  other_on k n q = leaf_on y h k n q (t o.row o.text (drop o.text x) k n q) _ _ refl refl
 
-  pub other_rowed : Rowed w x l o₀ n₀ b₀ m b (passed o (check_at w x l any o))
-  other_rowed = go (check_at w x l any o) refl
+  pub other_next : (e : Extent) → got e ≡ passed o (check_at w x l any o) → Comes w x l any o₀ n₀ b₀ e (m - 1) b
+  other_next e f = go (check_at w x l any o) refl f
     where
-      go : (a : Answer (ℕ × ℕ)) → check_at w x l any o ≡ a → Rowed w x l o₀ n₀ b₀ m b (passed o a)
-      go (got (k, n)) q = other_on k n q
-      go (refuse a (at i)) q = comes_no y h a i q
-      go (refuse a (byte i)) q = absurd (no_byte w x l any o a i (check_no w x l any o a (byte i) q))
+      go : (a : Answer (ℕ × ℕ)) → check_at w x l any o ≡ a → got e ≡ passed o a → Comes w x l any o₀ n₀ b₀ e (m - 1) b
+      go (got (k, n)) q g = let i : beyond values o k n ≡ e = cc in subst (λ (z : Extent). Comes w x l any o₀ n₀ b₀ z (m - 1) b) i (other_on k n q)
+      go (refuse a p) q g = cc
 
--- an element without children, by its style s
+  pub other_no : (a : ℕ) (p : Place) → refuse a p ≡ passed o (check_at w x l any o) → Finds w x l any n₀ o₀ b₀ b (refuse a p)
+  other_no a p f = comes_no y h a p (go (check_at w x l any o) f)
+    where
+      go : (r : Answer (ℕ × ℕ)) → refuse a p ≡ passed o r → r ≡ refuse a p
+      go (got (k, n)) g = cc
+      go (refuse e q) g = cc
+
+-- an element without children
 pub element_on : {w x : List ℕ} {l j : ℕ} {o₀ o : Extent} {n₀ m : ℕ} {b₀ b : List ℕ} → Comes w x l (like j) o₀ n₀ b₀ o m b → 0 < m → (k n : ℕ) → check_at w x l (like j) o ≡ got (k, n)
-    → Nested l (like j) (drop (2 * o.row) w) k n false → (s : Style) → s ≡ style_of k → (u z : ℕ) → u ≡ letters s n → z ≡ item_width s → Comes w x l (like j) o₀ n₀ b₀ (past o u (z + u)) (m - 1) b
+    → Bare l (like j) (drop (2 * o.row) w) → (u z : ℕ) → u ≡ letters (style_of k) n → z ≡ item_width (style_of k) → Comes w x l (like j) o₀ n₀ b₀ (past o u (z + u)) (m - 1) b
 unfolding mode_of
-element_on {w = w} {x = x} {l = l} {j = j} {o = o} y h k n q f s d u z eu ez =
-    let t = element_fits (like j) k y.sure (good l (like j) o.row o.text (drop (2 * o.row) w) (drop o.text x) k n q).fits refl in
-    leaf_on y h k n q (f o.row o.text (drop o.text x) k n q t) u (z + u) (rw d at eu) (rw (item_wide (style_of k) n 0, ← d, ← ez))
+element_on {w = w} {x = x} {o = o} y h k n q f u z eu ez = leaf_on y h k n q (f o.row o.text (drop o.text x) k n q) u (z + u) eu (rw (item_wide (style_of k) n 0, ← ez))
 
 -- where no level is left the spot does not matter, and the first row is refused
 check_spot : (c d : Spot) (i j : ℕ) (w x : List ℕ) → check 0 c i j w x ≡ check 0 d i j w x
@@ -396,8 +403,7 @@ deep_finds w x l c n o b e h = rw e (go (check_at w x 0 any o) refl)
   where
     go : (a : Answer (ℕ × ℕ)) → check_at w x 0 any o ≡ a → Finds w x 0 c n o b b (passed o a)
     go (got (k, m)) q = absurd (omega (arith, (good 0 any o.row o.text (drop (2 * o.row) w) (drop o.text x) k m q).level))
-    go (refuse a (at i)) q = finds_no w x 0 c n o b b (record { number = a; place = i }) h (check_no w x 0 c o a (at i) (check_spot c any o.row o.text (drop (2 * o.row) w) (drop o.text x) ∙ q))
-    go (refuse a (byte i)) q = absurd (no_byte w x 0 any o a i (check_no w x 0 any o a (byte i) q))
+    go (refuse a p) q = finds_no w x 0 c n o b b a p h (check_no w x 0 c o a p (check_spot c any o.row o.text (drop (2 * o.row) w) (drop o.text x) ∙ q))
 
 -- the beginning of a table
 pub at_start : (w x : List ℕ) → Within w x begin

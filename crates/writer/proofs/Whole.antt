@@ -16,14 +16,12 @@ use Rattle.standard.specs.Outcomes.{in_force, bytes_of, size}
 use Rattle.laws.specs.Answers.{out}
 use Rattle.laws.specs.Bounds.{rows_length}
 use Rattle.laws.specs.Tables.{tree_sound}
-use Rattle.standard.specs.declared.refusal.Refusal.{Refusal}
 use Rattle.writer.specs.Heads.{mode_of}
 use Rattle.writer.specs.Marks.{marks, marks*}
 use Rattle.writer.specs.Sizing.{total_from, Marked, values_at, begin}
 use Rattle.writer.specs.Tables.{Fitting}
-use Rattle.writer.specs.declared.sizing.Sized.TheVariants.{Fits, Refused}
 use Rattle.writer.specs.declared.sizing.Extent.{Extent}
-use Rattle.writer.proofs.Sums.{Found, found, values_placed, unfit}
+use Rattle.writer.proofs.Sums.{Found, found, unfit}
 
 -- one value from the beginning
 one_value : (l : ℕ) (w x : List ℕ) → values_at w x l any 1 begin ≡ ◌>>=◌ (tree l any 0 0 w x) (λ q. got (more q.0 none, q.1, q.2))
@@ -98,11 +96,11 @@ module _ (l : ℕ) (w x : List ℕ) (t : in_force l ≡ true) (h : ¬ (length w 
   even : length w % 2 ≡ 0
   even = omega arith
 
-  pub value_no : (f : Refusal) → Refused f ≡ total_from any begin (values_at w x l any 1 begin) → size l w x ≡ refuse f.number (at f.place)
+  pub value_no : (a : ℕ) (p : Place) → refuse a p ≡ total_from any begin (values_at w x l any 1 begin) → size l w x ≡ refuse a p
   unfolding size bytes_of table
-  value_no f e = rw (t, even, tree_no l w x f.number (at f.place) (unfit any begin (values_at w x l any 1 begin) f (values_placed w x l any 1 begin) e))
+  value_no a p e = rw (t, even, tree_no l w x a p (unfit any begin (values_at w x l any 1 begin) a p e))
 
-  module _ (e : Extent) (f : Fits e ≡ total_from any begin (values_at w x l any 1 begin)) where
+  module _ (e : Extent) (f : got e ≡ total_from any begin (values_at w x l any 1 begin)) where
     o : One l w x e
     o = one l w x e (found any begin (values_at w x l any 1 begin) e f)
 
@@ -151,7 +149,7 @@ marked_one b a m v u y q e h r =
     rw append-nil at (g (rw append-nil r))
 
 -- a table that fits
-pub fitting : (l : ℕ) (w x : List ℕ) → in_force l ≡ true → ¬ (length w % 2 ≡ 1) → (e : Extent) → Fits e ≡ total_from any begin (values_at w x l any 1 begin) → length w ≤ 2 * e.row → length x ≤ e.text → e.size ≤ most → (b a : List ℕ)
+pub fitting : (l : ℕ) (w x : List ℕ) → in_force l ≡ true → ¬ (length w % 2 ≡ 1) → (e : Extent) → got e ≡ total_from any begin (values_at w x l any 1 begin) → length w ≤ 2 * e.row → length x ≤ e.text → e.size ≤ most → (b a : List ℕ)
     → Marked b 0 a (values_at w x l any 1 begin) → Fitting l w x b a e
 fitting l w x t h e f y z s b a m =
     let v = o l w x t h e f in
@@ -165,7 +163,7 @@ fitting l w x t h e f y z s b a m =
       kept = λ r. marked_one b a 0 v.value v.left v.tail (values_at w x l any 1 begin) (whole_values l w x t h e f y z) m (omega arith);
     }
 
-pub row_inside : (l : ℕ) (w x : List ℕ) (e : Extent) → Fits e ≡ total_from any begin (values_at w x l any 1 begin) → 2 * e.row ≤ length w
+pub row_inside : (l : ℕ) (w x : List ℕ) (e : Extent) → got e ≡ total_from any begin (values_at w x l any 1 begin) → 2 * e.row ≤ length w
 row_inside l w x e f =
     let v = one l w x e (found any begin (values_at w x l any 1 begin) e f) in
     omega (arith, simp length-append at (ap length v.rows_are), rows_length v.value, v.row)

@@ -66,12 +66,15 @@ abbrev pub children_count : Children → ℕ
 children_count (Values n) = n
 children_count (Elements k n) = n
 
+abbrev pub some_at : Spot → (count : ℕ) → Option (Spot × ℕ)
+some_at c n = Some (c, n)
+
 abbrev pub children_is : Option Children → Option (Spot × ℕ)
 children_is None = None
-children_is (Some cs) = Some (children_spot cs, children_count cs)
+children_is (Some cs) = some_at (children_spot cs) (children_count cs)
 
 unfoldable pub parent_of : Style → (kind number : ℕ) → Option (Spot × ℕ)
-parent_of s k n = if (nests s k n) (Some (spot_in s n, children s n)) None
+parent_of s k n = if (nests s k n) (some_at (spot_in s n) (children s n)) None
 
 -- in an array of elements of a kind that arrays may hold, if in an array at all
 abbrev pub Sure : Spot → Type 0

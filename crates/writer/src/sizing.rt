@@ -1,5 +1,5 @@
 // Sizing: the checks of all rows and the bytes that they will be written to (docs/FORMAT.md, 6.1).
-ghost use Rattle.std.specs.Prelude.{◌≡◌, Some, None, ◌+◌, ◌*◌, ◌-◌, ◌^◌, ◌≤◌, ◌<◌, T, eqb, length, drop};
+ghost use Rattle.std.specs.Prelude.{◌≡◌, None, ◌+◌, ◌*◌, ◌-◌, ◌^◌, ◌≤◌, ◌<◌, T, eqb, length, drop};
 ghost use Rattle.std.proofs.lemmas.List.Edits.{sets};
 ghost use Rattle.standard.specs.Choose.{if};
 ghost use Rattle.standard.specs.Bytes.{be};
@@ -10,7 +10,7 @@ ghost use Rattle.standard.specs.InCode.{kind_is, answer_is};
 ghost use Rattle.writer.specs.Heads.{values, elements};
 ghost use Rattle.writer.specs.Rows.{check};
 ghost use Rattle.writer.specs.InCode.{checked_is};
-ghost use Rattle.writer.specs.Sizing.{opens, arrays, parent_of, text_size, children_is, children_spot, children_count, Sure, Seen, Told, Bare, Nested, Finds, Within, Small, begin, past, beyond, passed, inside, open_head, closed, MarkPut};
+ghost use Rattle.writer.specs.Sizing.{opens, arrays, some_at, parent_of, text_size, children_is, children_spot, children_count, Sure, Seen, Told, Bare, Nested, Finds, Within, Small, begin, past, beyond, passed, inside, open_head, closed, MarkPut};
 
 use crate::row::{Row, Table};
 use crate::{head, number, put, row};
@@ -86,6 +86,7 @@ pub enum Taken {
 }
 
 // Does a row hold values with codes of their own, and some of them.
+#[tactic(auto, unfolding(crate::specs::Sizing::opens, crate::specs::Sizing::nests, standard::specs::Kinds::style_of, standard::specs::Kinds::kinds, standard::specs::Choose::lookup, standard::specs::Table::ranged, standard::specs::Table::children, standard::specs::Kinds::count_in, standard::specs::Kinds::kind_in), using(crate::proofs::Sizes::empty_closed))]
 fn is_open(kind: Kind, number: u64) -> bool
     ensures { result ≡ opens (style_of (kind_is kind)) (kind_is kind) number }
 {
@@ -101,8 +102,9 @@ fn is_open(kind: Kind, number: u64) -> bool
 }
 
 // The elements of an array that has some.
+#[tactic(auto, unfolding(crate::specs::Sizing::arrays, crate::specs::Sizing::nests, standard::specs::Kinds::style_of, standard::specs::Kinds::kinds, standard::specs::Choose::lookup, standard::specs::Table::ranged, standard::specs::Table::children, standard::specs::Kinds::count_in, standard::specs::Kinds::kind_in), using(standard::specs::Facts::strange))]
 fn elements_of(kind: Kind, number: u64) -> Option<Children>
-    ensures { children_is result ≡ if (arrays (style_of (kind_is kind)) (kind_is kind) number) (Some (like (kind_in number), count_in number)) None }
+    ensures { children_is result ≡ if (arrays (style_of (kind_is kind)) (kind_is kind) number) (some_at (like (kind_in number)) (count_in number)) None }
 {
     let count = kind::count_of_elements(number);
     if !matches!(kind, Kind::Array) || count == 0 || kind::MOST < count {
@@ -209,6 +211,7 @@ fn take_element(table: Table, row: usize, levels: usize, told: Kind) -> Option<C
 }
 
 // Stores a mark where there is room for it.
+#[tactic(auto, unfolding(standard::specs::Bytes::be))]
 fn put_mark(marks: &mut [u8], at: usize, width: usize, body: usize)
     requires { ((width ≡ 0 → ⊥) → width ≡ 3) × (at + 3 < 2 ^ 64) }
     ensures { at + width ≤ length marks.old → marks.new ≡ sets marks.old at (be width body) }
