@@ -2,7 +2,7 @@
 use Prim.Native.Nat.{ℕ, zero, suc, ◌≤◌, ◌<◌}
 use mathlib.Core.Path.{◌≡◌, refl, sym, subst, ◌∙◌}
 use mathlib.Core.List.{List, [], ◌∷◌}
-use mathlib.Core.Bool.{Bool, true}
+use mathlib.Core.Bool.{true}
 use native.Mathlib.Omega.{arith}
 use borrow.Author.Tests.{leb-true}
 use lib.Dec.{T, leb, leb-zero}
@@ -12,6 +12,8 @@ use Rattle.standard.specs.Text.{Sequence, utf8, ascii, lead_in, Fault, flawless,
 use Rattle.standard.specs.Kinds.{flaw, clean, good_length}
 use Rattle.standard.specs.Facts.{T_true, if_case, clean_nil, none_due}
 use Rattle.text.specs.Steps.{ascii_run}
+use Rattle.std.specs.List.{slice_range}
+use Rattle.text.proofs.Sequences.{rest_is}
 use Rattle.text.proofs.Ascii.{single, run_le}
 
 clean_good : (k : ℕ) (t : List ℕ) → clean k t ≡ true → good_length k t ≡ length t
@@ -42,7 +44,8 @@ unfolding flaw fault_due utf8 ascii
 run_clean k n bs h = rw (run_flawless _ 0 n bs h, run_flawless [] 0 n bs h) (clean_nil k)
 
 -- what lies in a block of ASCII is good, whatever the kind
-pub block_good : (k n m : ℕ) (bs : List ℕ) (b : Bool) → n ≤ m → b ≡ leb m (ascii_run bs) → b ≡ true → good_length k (take n bs) ≡ n
-block_good k n m bs b h e t =
-    let i : n ≤ ascii_run bs = omega (arith, leb-true m (ascii_run bs) (sym e ∙ t)) in
-    clean_good k (take n bs) (run_clean k n bs i) ∙ length-take-le n bs (omega (arith, i, run_le bs))
+pub block_good : (k n m : ℕ) (text rest : List ℕ) (start : ℕ) → rest ≡ slice_range text start (length text) → n ≤ m → true ≡ leb m (ascii_run rest) → n ≡ good_length k (take n (drop start text))
+block_good k n m text rest start p h e =
+    let same : rest ≡ drop start text = p ∙ rest_is start text in
+    let i : n ≤ ascii_run rest = omega (arith, leb-true m (ascii_run rest) (sym e)) in
+    sym (rw (← same) (clean_good k (take n rest) (run_clean k n rest i) ∙ length-take-le n rest (omega (arith, i, run_le rest))))

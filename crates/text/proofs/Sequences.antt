@@ -8,18 +8,18 @@ use native.Mathlib.Numerals.{add-one}
 use native.Mathlib.Omega.{arith}
 use borrow.Author.Tests.{lt-leb}
 use lib.Dec.{T}
-use lib.ListN.{length, drop, get_or, length-drop, drop_of_length-le}
-use lib.Seq.{drop-cons, drop-drop}
+use lib.ListN.{length, take, drop, get_or, length-drop, drop_of_length-le}
+use lib.Seq.{take-length, drop-cons, drop-drop}
 use Rattle.std.specs.Prelude.{Option, Some, None, MatchOption}
 use denote.Ref.{Bor}
 use Rattle.std.specs.Bool.{then_some}
 use Rattle.std.specs.Slice.{IsGetResult}
 use Rattle.standard.specs.Choose.{if}
-use Rattle.standard.specs.Text.{Range, within, Sequence, Lead, stray, then, lead_in, Fault, flawless, fault, led, fault_due}
+use Rattle.standard.specs.Text.{Range, within, Sequence, Lead, stray, then, lead_in, Fault, flawless, fault, led, fault_due, fault_in}
 use Rattle.text.specs.Steps.{stand, width_by, width_in}
 use Rattle.standard.specs.Facts.{none_due, and_right, if_case}
 
-and_true : (a : Bool) → a && true ≡ a
+pub and_true : (a : Bool) → a && true ≡ a
 and_true true = refl
 and_true false = refl
 
@@ -44,10 +44,10 @@ unfolding stand
 stand_at r text at h = rw (drop-cons text at 0 h) (and_true (within r (get_or text at 0)))
 
 -- the byte that was got there
-got_within : (text : List ℕ) (at : ℕ) (x : Bor ℕ) → IsGetResult text at at (Some x) → at < length text
+pub got_within : (text : List ℕ) (at : ℕ) (x : Bor ℕ) → IsGetResult text at at (Some x) → at < length text
 got_within text at x g = g.3.0
 
-got_is : (text : List ℕ) (at : ℕ) (x : Bor ℕ) → IsGetResult text at at (Some x) → get_or text at 0 ≡ x.now
+pub got_is : (text : List ℕ) (at : ℕ) (x : Bor ℕ) → IsGetResult text at at (Some x) → get_or text at 0 ≡ x.now
 got_is text at x g = sym (g.4 (omega arith) 0)
 
 -- it tells whether a byte of that range stands there
@@ -58,22 +58,22 @@ stand_got r text at None b g m k = let h : length text ≤ at = g.3 in m ∙ sim
 stand_got r text at (Some x) b g m k = k x m ∙ ap (within r) (sym (got_is text at x g)) ∙ sym (stand_at r text at (got_within text at x g))
 
 -- a range, and those behind it a byte further
-stand_more : (r : Range) (rs : List Range) (text : List ℕ) (at n : ℕ) → stand (r ∷ rs) (drop (at + n) text) ≡ stand (r ∷ []) (drop (at + n) text) && stand rs (drop (at + suc n) text)
+stand_more : (r : Range) (rs : List Range) (text : List ℕ) (n : ℕ) → stand (r ∷ rs) (drop n text) ≡ stand (r ∷ []) (drop n text) && stand rs (drop (suc n) text)
 unfolding stand
-stand_more r rs text at n = rw (add-suc at n, ← add-one (at + n), ← drop-drop 1 (at + n) text) (by_front (drop (at + n) text))
+stand_more r rs text n = rw (← add-one n, ← drop-drop 1 n text) (by_front (drop n text))
   where
     by_front : (bs : List ℕ) → stand (r ∷ rs) bs ≡ stand (r ∷ []) bs && stand rs (drop 1 bs)
     by_front [] = refl
     by_front (b ∷ bs) = ap (λ x. x && stand rs bs) (sym (and_true (within r b)))
 
 -- a range stands there, and then those behind it; or it does not
-pub stand_on : (r : Range) (rs : List Range) (text : List ℕ) (at n : ℕ) (b : Bool) → true ≡ stand (r ∷ []) (drop (at + n) text) → b ≡ stand rs (drop (at + suc n) text)
-    → b ≡ stand (r ∷ rs) (drop (at + n) text)
-stand_on r rs text at n b e f = rw (stand_more r rs text at n, ← e) f
+pub stand_on : (r : Range) (rs : List Range) (text : List ℕ) (n : ℕ) (b : Bool) → true ≡ stand (r ∷ []) (drop n text) → b ≡ stand rs (drop (suc n) text)
+    → b ≡ stand (r ∷ rs) (drop n text)
+stand_on r rs text n b e f = rw (stand_more r rs text n, ← e) f
 
-pub stand_off : (r : Range) (rs : List Range) (text : List ℕ) (at n : ℕ) (b : Bool) → false ≡ stand (r ∷ []) (drop (at + n) text) → b ≡ false
-    → b ≡ stand (r ∷ rs) (drop (at + n) text)
-stand_off r rs text at n b e f = rw (stand_more r rs text at n, ← e) f
+pub stand_off : (r : Range) (rs : List Range) (text : List ℕ) (n : ℕ) (b : Bool) → false ≡ stand (r ∷ []) (drop n text) → b ≡ false
+    → b ≡ stand (r ∷ rs) (drop n text)
+stand_off r rs text n b e f = rw (stand_more r rs text n, ← e) f
 
 -- the width, where a test finds the bytes that are due
 pub width_then : (rs : List Range) (bs : List ℕ) (b : Bool) → b ≡ stand rs bs → then_some b (suc (length rs)) ≡ width_by (then rs) bs
@@ -83,10 +83,16 @@ width_then rs bs b e = rw (← e) (by_test b)
     by_test true = refl
     by_test false = refl
 
--- what the byte asks for decides
-pub width_got : (ss : List Sequence) (text : List ℕ) (at : ℕ) (x : Bor ℕ) (l : Lead) → IsGetResult text at at (Some x) → lead_in ss x.now ≡ l → width_by l (drop (at + 1) text) ≡ width_in ss (drop at text)
+-- what the first byte asks for decides
+pub width_first : (ss : List Sequence) (text : List ℕ) (x : Bor ℕ) (l : Lead) → IsGetResult text 0 0 (Some x) → lead_in ss x.now ≡ l → width_by l (drop 1 text) ≡ width_in ss text
 unfolding width_in
-width_got ss text at x l g e = rw (add-one at, drop-cons text at 0 (got_within text at x g), got_is text at x g, e)
+width_first ss [] x l g e = absurd (omega (arith, got_within [] 0 x g))
+width_first ss (b ∷ bs) x l g e = rw (got_is (b ∷ bs) 0 x g, e)
+
+pub width_none : (ss : List Sequence) (text : List ℕ) → length text ≤ 0 → width_in ss text ≡ None
+unfolding width_in
+width_none ss [] h = refl
+width_none ss (b ∷ bs) h = absurd (omega arith)
 
 width_le : (ss : List Sequence) (bs : List ℕ) → MatchOption (width_in ss bs) (Unit {0}) (λ w. (0 < w) × (w ≤ length bs))
 unfolding width_in stand
@@ -103,10 +109,6 @@ width_le ss (b ∷ bs) = by_lead (lead_in ss b)
     by_lead (then rs) = if_case (λ o. MatchOption o (Unit {0}) (λ w. (0 < w) × (w ≤ suc (length bs)))) (stand rs bs) (Some (suc (length rs))) None
         (λ h. (omega arith, suc-le-suc (fits rs bs h)))
         (λ h. tt)
-
--- a sequence takes a byte at least, and ends within the text
-pub width_within : (ss : List Sequence) (text : List ℕ) (at w : ℕ) → Some w ≡ width_in ss (drop at text) → (0 < w) × (w ≤ length text - at)
-width_within ss text at w e = rw (← length-drop at text) (rw (← e) at (width_le ss (drop at text)))
 
 -- Faults
 
@@ -137,16 +139,31 @@ step ss p b bs = by_lead (lead_in ss b)
     by_lead stray = refl
     by_lead (then rs) = rw (due ss p (suc p) bs rs) (by_rest rs (stand rs bs))
 
--- the first fault of text from a place on, where no sequence is open
-abbrev pub fault_from : List Sequence → List ℕ → ℕ → Fault
-fault_from ss text at = fault_due ss 0 at (drop at text) []
+-- bytes at the front in which no fault begins, or that one begins there
+abbrev pub Goes : List Sequence → List ℕ → Option ℕ → Type 0
+Goes ss bs None = (p : ℕ) → fault_due ss 0 p bs [] ≡ fault p
+Goes ss bs (Some n) = (0 < n) × (n ≤ length bs) × ((p : ℕ) → fault_due ss 0 (p + n) (drop n bs) [] ≡ fault_due ss 0 p bs [])
 
-pub stops : (ss : List Sequence) (text : List ℕ) (at : ℕ) → at < length text → None ≡ width_in ss (drop at text) → fault_from ss text at ≡ fault at
-stops ss text at h e = rw (drop-cons text at 0 h, step ss at (get_or text at 0) (drop (suc at) text), ← drop-cons text at 0 h, ← e)
+pub width_goes : (ss : List Sequence) (bs : List ℕ) (o : Option ℕ) → 0 < length bs → o ≡ width_in ss bs → Goes ss bs o
+width_goes ss [] o h e = absurd (omega arith)
+width_goes ss (b ∷ bs) None h e = λ p. rw (step ss p b bs, ← e)
+width_goes ss (b ∷ bs) (Some w) h e =
+    let fits : (0 < w) × (w ≤ length (b ∷ bs)) = rw (← e) at (width_le ss (b ∷ bs)) in
+    (fits.0, fits.1, λ p. sym (rw (step ss p b bs, ← e)))
 
-pub goes : (ss : List Sequence) (text : List ℕ) (at w : ℕ) → at < length text → Some w ≡ width_in ss (drop at text) → fault_from ss text (at + w) ≡ fault_from ss text at
-goes ss text at w h e = sym (rw (drop-cons text at 0 h, step ss at (get_or text at 0) (drop (suc at) text), ← drop-cons text at 0 h, ← e, drop-drop))
+-- where the rest of a text has its first fault, the text has its own
+abbrev pub Left : List Sequence → (text rest : List ℕ) → Type 0
+Left ss text bs = (length bs ≤ length text) × (fault_due ss 0 (length text - length bs) bs [] ≡ fault_in ss text)
 
-pub ends : (ss : List Sequence) (text : List ℕ) (at : ℕ) → length text ≤ at → fault_from ss text at ≡ flawless
+pub rest_is : (n : ℕ) (bs : List ℕ) → take (length bs - n) (drop n bs) ≡ drop n bs
+rest_is n bs = ap (λ k. take k (drop n bs)) (sym (length-drop n bs)) ∙ take-length (drop n bs)
+
+pub left_on : (ss : List Sequence) (text bs : List ℕ) (n : ℕ) → Left ss text bs → Goes ss bs (Some n) → Left ss text (take (length bs - n) (drop n bs))
+left_on ss text bs n l g =
+    let place : length text - length (drop n bs) ≡ length text - length bs + n = rw length-drop (omega (arith, l.0, g.1)) in
+    rw rest_is (rw length-drop (omega arith), rw place (g.2 (length text - length bs) ∙ l.1))
+
+pub ends : (ss : List Sequence) (p : ℕ) (bs : List ℕ) → length bs ≤ 0 → fault_due ss 0 p bs [] ≡ flawless
 unfolding fault_due
-ends ss text at h = rw drop_of_length-le
+ends ss p [] h = refl
+ends ss p (b ∷ bs) h = absurd (omega arith)

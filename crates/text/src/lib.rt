@@ -1,7 +1,7 @@
 // The text check: RFC 3629 for strings, ASCII for symbols (docs/FORMAT.md, 4.6).
 #![tactic(auto)]
 
-ghost use Rattle.std.specs.Prelude.{◌≡◌, [], ◌∷◌, ◌+◌, ◌-◌, leb, take, drop};
+ghost use Rattle.std.specs.Prelude.{◌≡◌, [], ◌∷◌, ◌+◌, ◌-◌, ◌≤◌, leb, length, position, take, drop};
 ghost use Rattle.standard.specs.Text.{from◌to◌, tail, utf8, ascii, lead_in, fault_in};
 ghost use Rattle.standard.specs.Kinds.{flaw, good_length};
 ghost use Rattle.standard.specs.InCode.{kind_is};
@@ -52,83 +52,78 @@ fn tail_at(text: &[u8], at: usize) -> bool
     byte_at(text, at, 0x80, 0xbf)
 }
 
-// How many bytes the sequence has that stands there, if one does.
-fn sequence_at(text: &[u8], at: usize) -> Option<usize>
-    ensures { result ≡ width_in utf8 (drop at text.now) }
+// How many bytes the sequence has that stands at the front, if one does.
+fn sequence_width(text: &[u8]) -> Option<usize>
+    ensures { result ≡ width_in utf8 text.now }
 {
-    match lead_of(*text.get(at)?)? {
+    match lead_of(*text.first()?)? {
         Lead::One => Some(1),
-        Lead::Two => tail_at(text, at + 1).then_some(2),
-        Lead::Three { lo, hi } => {
-            (byte_at(text, at + 1, lo, hi) && tail_at(text, at + 2)).then_some(3)
-        }
+        Lead::Two => tail_at(text, 1).then_some(2),
+        Lead::Three { lo, hi } => (byte_at(text, 1, lo, hi) && tail_at(text, 2)).then_some(3),
         Lead::Four { lo, hi } => {
-            (byte_at(text, at + 1, lo, hi)
-                && tail_at(text, at + 2)
-                && tail_at(text, at + 3)).then_some(4)
+            (byte_at(text, 1, lo, hi) && tail_at(text, 2) && tail_at(text, 3)).then_some(4)
         }
     }
 }
 
-// Whether 16 bytes of ASCII stand there: their highest tells.
+// Whether all 16 bytes are ASCII: their highest tells.
 // No byte ends the loop early, so that the compiler compares all 16 at once.
-fn ascii_block(text: &[u8], at: usize) -> bool
-    ensures { result ≡ leb 16 (ascii_run (drop at text.now)) }
+fn is_ascii(block: &[u8; 16]) -> bool
+    ensures { result ≡ leb 16 (ascii_run block.now) }
 {
-    if text.len() < 16 {
-        return false;
-    }
-    if text.len() - 16 < at {
-        return false;
-    }
-    let mut top: u8 = 0;
-    for i in 0..16 {
-        if top < text[at + i] {
-            top = text[at + i];
-        }
-    }
-    top < 0x80
+    block.iter().fold(0, |top: u8, byte| top.max(*byte)) < 0x80
 }
 
-// Past the blocks of ASCII that begin there. What is left of the ASCII bytes ends where they did.
-fn past_blocks(text: &[u8], start: usize) -> usize
-    ensures { result + ascii_run (drop result text.now) ≡ start + ascii_run (drop start text.now) }
+// Whether 16 bytes of ASCII stand at the front.
+fn ascii_block(text: &[u8]) -> bool
+    ensures { result ≡ leb 16 (ascii_run text.now) }
 {
-    let mut at = start;
-    while ascii_block(text, at) {
-        at += 16;
-    }
-    at
+    text.first_chunk().is_some_and(|block| is_ascii(block))
 }
 
-// The end of the ASCII bytes that begin there.
-fn past_ascii(text: &[u8], start: usize) -> usize
-    ensures { result ≡ start + ascii_run (drop start text.now) }
+// What stands behind the blocks of ASCII at the front.
+fn past_blocks(text: &[u8]) -> &[u8]
+    ensures part { length result.now ≤ length text.now }
+    ensures run { length text.now - length result.now + ascii_run result.now ≡ ascii_run text.now }
 {
-    let mut at = past_blocks(text, start);
-    while at < text.len() {
-        if 0x80 <= text[at] {
-            return at;
-        }
-        at += 1;
+    let mut rest = text;
+    while ascii_block(rest) {
+        rest = &rest[16..];
     }
-    at
+    rest
+}
+
+// The first byte that is no ASCII.
+fn first_other(text: &[u8]) -> Option<usize>
+    ensures { result ≡ position (leb 0x80) text.now }
+{
+    text.iter().position(|byte| 0x80 <= *byte)
+}
+
+// How many bytes of ASCII stand at the front.
+fn ascii_length(text: &[u8]) -> usize
+    ensures { result ≡ ascii_run text.now }
+{
+    let rest = past_blocks(text);
+    let end = first_other(rest).unwrap_or(rest.len());
+    text.len() - rest.len() + end
 }
 
 // The first fault of a string: the first byte at which, after correct sequences from the start, none begins.
 pub fn utf8_fault(text: &[u8]) -> Option<usize>
     ensures { fault_is result ≡ fault_in utf8 text.now }
 {
-    let mut at: usize = 0;
-    while at < text.len() {
-        if text[at] < 0x80 {
-            at = past_ascii(text, at);
+    let mut rest = text;
+    while let Some(first) = rest.first() {
+        let good = if *first < 0x80 {
+            Some(ascii_length(rest))
         } else {
-            match sequence_at(text, at) {
-                Some(width) => at += width,
-                None => return Some(at),
-            }
-        }
+            sequence_width(rest)
+        };
+        let Some(length) = good else {
+            return Some(text.len() - rest.len());
+        };
+        rest = &rest[length..];
     }
     None
 }
@@ -137,7 +132,7 @@ pub fn utf8_fault(text: &[u8]) -> Option<usize>
 pub fn ascii_fault(text: &[u8]) -> Option<usize>
     ensures { fault_is result ≡ fault_in ascii text.now }
 {
-    let end = past_ascii(text, 0);
+    let end = ascii_length(text);
     (end < text.len()).then_some(end)
 }
 
@@ -160,12 +155,12 @@ pub fn flaw_of(kind: Kind, text: &[u8]) -> Option<usize>
 pub fn good_length(kind: Kind, text: &[u8], start: usize, count: usize) -> usize
     ensures { result ≡ good_length (kind_is kind) (take count (drop start text.now)) }
 {
-    if count <= 16 && ascii_block(text, start) {
+    let Some(rest) = text.get(start..) else {
+        return 0;
+    };
+    if count <= 16 && ascii_block(rest) {
         return count;
     }
-    if text.len() < start {
-        return 0;
-    }
-    let length = count.min(text.len() - start);
-    flaw_of(kind, &text[start..start + length]).unwrap_or(length)
+    let part = &rest[..count.min(rest.len())];
+    flaw_of(kind, part).unwrap_or(part.len())
 }

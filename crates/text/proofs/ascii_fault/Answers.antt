@@ -5,4 +5,4 @@ use Rattle.text.proofs.Ascii.{run_only}
 use Rattle.text.proofs.ascii_fault.Goals as goal
 
 pub returns : goal.returns
-returns c = ap fault_is c.then_some.ensures ∙ run_only c.args.text.now _ _ c.past_ascii-end.ensures refl
+returns c = ap fault_is c.then_some.ensures ∙ run_only c.args.text.now _ _ c.ascii_length-end.ensures refl

@@ -1,24 +1,21 @@
--- `text::past_blocks` meets its contract, which is the loop's invariant: what is left of the ASCII bytes ends where those from the start do.
-use Prim.Native.Nat.{◌≤◌}
-use mathlib.Core.Path.{refl, sym, ◌∙◌}
-use native.Mathlib.Omega.{arith}
-use borrow.Author.Tests.{leb-true}
-use lib.ListN.{drop}
-use Rattle.text.specs.Steps.{ascii_run}
-use Rattle.text.proofs.Ascii.{run_within, run_end}
+-- `text::past_blocks` meets its contract.
+use Rattle.std.proofs.Common.{arith, ◌≤◌, length, length-drop, leb-true, sym, ◌∙◌}
+use Rattle.text.proofs.Sequences.{rest_is}
+use Rattle.text.proofs.Ascii.{run_le, runs_on}
 use Rattle.text.proofs.past_blocks.Goals as goal
+use Rattle.text.proofs.past_blocks.Goals.{In-loop-rest}
 
-whole : (c : goal.In-loop-at) → 16 ≤ ascii_run (drop c.loop-at.at c.args.text.now)
-whole c = leb-true _ _ (sym c.ascii_block.ensures ∙ c.loop-at-test.true)
+enough : (c : In-loop-rest) → 16 ≤ length c.loop-rest.rest.now
+enough c = omega (arith, run_le c.loop-rest.rest.now, leb-true 16 _ (sym c.ascii_block.ensures ∙ c.loop-rest-test.true))
 
-pub loop-at-init : goal.loop-at-init
-loop-at-init c = refl
+pub slice_bounds-rest-count : goal.slice_bounds-rest-count
+slice_bounds-rest-count c = enough c
 
-pub overflow_add-at : goal.overflow_add-at
-overflow_add-at c = omega (arith, run_within c.args.text.now c.loop-at.at, whole c)
+pub slice_bounds-rest-start : goal.slice_bounds-rest-start
+slice_bounds-rest-start c = enough c
 
-pub loop-at-smaller : goal.loop-at-smaller
-loop-at-smaller c = omega (arith, run_within c.args.text.now c.loop-at.at, whole c)
+pub loop-rest-smaller : goal.loop-rest-smaller
+loop-rest-smaller c = let h : 16 ≤ length c.loop-rest.rest.now = enough (goal.at.loop-rest-smaller c).In-loop-rest in rw (rest_is 16 c.loop-rest.rest.now, length-drop) (omega arith)
 
-pub loop-at-preserved : goal.loop-at-preserved
-loop-at-preserved c = run_end _ _ 16 (whole c) ∙ c.loop-at.invariant
+pub loop-rest-preserved : goal.loop-rest-preserved
+loop-rest-preserved c = runs_on c.args.text.now c.loop-rest.rest.now 16 c.loop-rest.invariant (sym c.ascii_block.ensures ∙ c.loop-rest-test.true)

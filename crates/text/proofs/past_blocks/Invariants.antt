@@ -1,12 +1,10 @@
--- `text::past_blocks` meets its contract, which is the loop's invariant: what is left of the ASCII bytes ends where those from the start do.
-use Prim.Native.Nat.{◌+◌, ◌-◌}
-use mathlib.Core.Path.{◌≡◌}
-use lib.ListN.{length, drop}
-use Rattle.text.specs.Steps.{ascii_run}
+-- `text::past_blocks` meets its contract, which is the loop's invariant.
+use Rattle.std.proofs.Common.{length}
+use Rattle.text.proofs.Ascii.{Runs}
 use Rattle.text.proofs.past_blocks.Given as goal
 
-abbrev pub invariant-loop-at : goal.invariant-loop-at
-invariant-loop-at l = l.at + ascii_run (drop l.at l.text) ≡ l.start + ascii_run (drop l.start l.text)
+abbrev pub invariant-loop-rest : goal.invariant-loop-rest
+invariant-loop-rest l = Runs l.text l.rest
 
-abbrev pub decreases-loop-at : goal.decreases-loop-at
-decreases-loop-at l = length l.text - l.at
+abbrev pub decreases-loop-rest : goal.decreases-loop-rest
+decreases-loop-rest l = length l.rest

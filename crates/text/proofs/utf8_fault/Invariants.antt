@@ -1,13 +1,11 @@
 -- `text::utf8_fault` meets its contract. The invariant: the first fault of what is left is the first fault of the text.
-use Prim.Native.Nat.{◌-◌, ◌≤◌}
-use mathlib.Core.Path.{◌≡◌}
-use lib.ListN.{length}
-use Rattle.standard.specs.Text.{utf8, fault_in}
-use Rattle.text.proofs.Sequences.{fault_from}
+use Rattle.std.proofs.Common.{length}
+use Rattle.standard.specs.Text.{utf8}
+use Rattle.text.proofs.Sequences.{Left}
 use Rattle.text.proofs.utf8_fault.Given as goal
 
-abbrev pub invariant-loop-at : goal.invariant-loop-at
-invariant-loop-at l = (l.at ≤ length l.text) × (fault_from utf8 l.text l.at ≡ fault_in utf8 l.text)
+abbrev pub invariant-loop-first : goal.invariant-loop-first
+invariant-loop-first l = Left utf8 l.text l.rest
 
-abbrev pub decreases-loop-at : goal.decreases-loop-at
-decreases-loop-at l = length l.text - l.at
+abbrev pub decreases-loop-first : goal.decreases-loop-first
+decreases-loop-first l = length l.rest
