@@ -156,8 +156,8 @@ items_no l w q n e x p r h = go (is_code (layout_of e)) (element (layout_of e)) 
     go : (a b : Bool) → ◌>>◌ (need a code_unknown (at q)) (need b element_unfit (at q)) ≡ refuse x p
         → refuse x p ≡ contents w (◌>>=◌ {B = ℕ × Trees} (need a code_unknown (at q)) (λ u. ◌>>=◌ {B = ℕ × Trees} (need b element_unfit (at q)) (λ v. ◌>>=◌ {B = ℕ × Trees} (many (below l e) n q r) (λ y. ◌>>=◌ {B = ℕ × Trees} (done q y.1) (λ z. got (kind_of e, y.0))))))
     go true true h = let z : ◌≡◌ {A = ℕ} 0 1 = cc in absurd (omega arith)
-    go true false h = sym h
-    go false b h = sym h
+    go true false h = let i : element_unfit ≡ x = cc in let j : at q ≡ p = cc in rw (i, j)
+    go false b h = let i : code_unknown ≡ x = cc in let j : at q ≡ p = cc in rw (i, j)
 
 pub fit_of : (q : ℕ) (y : Layout) → element_of q y ≡ got tt → (is_code y ≡ true) × (element y ≡ true)
 unfolding element_of

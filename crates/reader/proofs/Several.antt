@@ -5,7 +5,7 @@ use mathlib.Core.Path.{◌≡◌, refl, sym, ap, ◌∙◌}
 use mathlib.Core.List.{List, [], ◌∷◌, ◌++◌}
 use mathlib.Core.Bool.{Bool, true, false}
 use native.Mathlib.Omega.{arith}
-use native.Mathlib.Nat.{add-zero, add_assoc}
+use native.Mathlib.Nat.{add-zero, add_assoc, sub-zero}
 use lib.Dec.{T, eqb}
 use lib.ListN.{length, drop, length-append, length-drop}
 use lib.Seq.{drop_at, drop-drop}
@@ -226,75 +226,78 @@ unfolding many several
 many_no f k i j zero q x p r h e = absurd (omega arith)
 many_no f k i j (suc n) q x p r h e = rw e
 
--- The loop stands at a, behind i rows and j bytes of text, with so many values left: what is left from here comes to what was due at the start
-pub record Going (s : List ℕ) (h : Option ℕ) (l count p a i j left : ℕ) : Type 0 where
+-- The loop stands at a, behind k values with i rows and j bytes of text: what is left from here comes to what was due at the start
+pub record Going (s : List ℕ) (h : Option ℕ) (l count p a i j k : ℕ) : Type 0 where
   pub taking : Taking h
   pub inside : a ≤ length s
-  pub height : i + left ≤ a + count
-  pub letters : j + left ≤ a + count
-  pub sum : several (length s) i j (many (reads h l) left (p + a) (drop a s)) ≡ several (length s) 0 0 (many (reads h l) count p s)
+  -- there were no more turns than bytes
+  pub few : k ≤ a
+  pub height : i ≤ a + k
+  pub letters : j ≤ a + k
+  pub sum : several (length s) i j (many (reads h l) (count - k) (p + a) (drop a s)) ≡ several (length s) 0 0 (many (reads h l) count p s)
 
-pub begin : (s : List ℕ) (h : Option ℕ) (l count p : ℕ) → Taking h → Going s h l count p 0 0 0 count
-begin s h l count p t = record { taking = t; inside = omega arith; height = omega arith; letters = omega arith; sum = rw (add-zero p) }
+pub begin : (s : List ℕ) (h : Option ℕ) (l count p : ℕ) → Taking h → Going s h l count p 0 0 0 0
+begin s h l count p t = record { taking = t; inside = omega arith; few = omega arith; height = omega arith; letters = omega arith; sum = rw (add-zero p, sub-zero count) }
 
-module _ (s : List ℕ) (h : Option ℕ) (l count p a i j left : ℕ) (g : Going s h l count p a i j left) where
-  pub end : left ≤ 0 → fits a i j ≡ several (length s) 0 0 (many (reads h l) count p s)
+module _ (s : List ℕ) (h : Option ℕ) (l count p a i j k : ℕ) (g : Going s h l count p a i j k) where
+  pub end : count ≤ k → fits a i j ≡ several (length s) 0 0 (many (reads h l) count p s)
   unfolding several many tall text
   end e =
-      let z : left ≡ 0 = omega arith in
+      let z : count - k ≡ 0 = omega arith in
       let b = back a s g.inside in
       let x : several (length s) i j (many (reads h l) 0 (p + a) (drop a s)) ≡ fits a i j = rw (b, add-zero i, add-zero j) in
       sym x ∙ rw z at g.sum
 
-  fails : (x : ℕ) (q : Place) → 0 < left → reads h l (p + a) (drop a s) ≡ refuse x q → refuse x q ≡ several (length s) 0 0 (many (reads h l) count p s)
-  fails x q n e = sym (many_no (reads h l) (length s) i j left (p + a) x q (drop a s) n e) ∙ g.sum
+  module _ (n : k < count) where
+    fails : (x : ℕ) (q : Place) → reads h l (p + a) (drop a s) ≡ refuse x q → refuse x q ≡ several (length s) 0 0 (many (reads h l) count p s)
+    fails x q e = sym (many_no (reads h l) (length s) i j (count - k) (p + a) x q (drop a s) (omega arith) e) ∙ g.sum
 
-  -- the turn ends all with what does not fit
-  pub stops : (x : ℕ) (q : Place) → 0 < left → code_at h l a (p + a) (drop a s) ≡ refuse x q → refuse x q ≡ several (length s) 0 0 (many (reads h l) count p s)
-  stops x q n e = fails x q n (barred h l a (p + a) x q (drop a s) e)
+    -- the turn ends all with what does not fit: there is no code, or what stands behind it is refused
+    pub stops : (x : ℕ) (q : Place) → refuse x q ≡ code_at h l a (p + a) (drop a s) → refuse x q ≡ several (length s) 0 0 (many (reads h l) count p s)
+    stops x q e = fails x q (barred h l a (p + a) x q (drop a s) (sym e))
 
-  module _ (n : 0 < left) (o : Start) (e : code_at h l a (p + a) (drop a s) ≡ got o) (m : Answer Extent) (d : m ≡ measured (length (drop o.from s)) (payload l o.code (p + a) (drop o.from s))) where
-    begun : o.from ≤ length s
-    begun = (opened_room h l a (p + a) o s g.inside e).0
+    module _ (o : Start) (e : got o ≡ code_at h l a (p + a) (drop a s)) where
+      pub begun : (o.from ≤ length s) × (o.from + reach h ≡ a + 1) × (0 < l)
+      begun = opened_room h l a (p + a) o s g.inside (sym e)
 
-    same : reads h l (p + a) (drop a s) ≡ payload l o.code (p + a) (drop o.from s)
-    same = opened_same h l a o.code o.from (p + a) s (opened h l a (p + a) (drop a s) o e)
+      same : reads h l (p + a) (drop a s) ≡ payload l o.code (p + a) (drop o.from s)
+      same = opened_same h l a o.code o.from (p + a) s (opened h l a (p + a) (drop a s) o (sym e))
 
-    pub ends : (x : ℕ) (q : Place) → m ≡ refuse x q → refuse x q ≡ several (length s) 0 0 (many (reads h l) count p s)
-    ends x q k = fails x q n (same ∙ refused_of (length (drop o.from s)) (payload l o.code (p + a) (drop o.from s)) x q (sym d ∙ k))
+      module _ (m : Answer Extent) (d : m ≡ measured (length (drop o.from s)) (payload l o.code (p + a) (drop o.from s))) where
+        pub ends : (x : ℕ) (q : Place) → m ≡ refuse x q → refuse x q ≡ several (length s) 0 0 (many (reads h l) count p s)
+        ends x q f = fails x q (same ∙ refused_of (length (drop o.from s)) (payload l o.code (p + a) (drop o.from s)) x q (sym d ∙ f))
 
-    pub ends_told : (x q k : ℕ) → m ≡ untold_is x q k → untold_is x q k ≡ several (length s) 0 0 (many (reads h l) count p s)
-    ends_told x q k = by (eqb k 1)
-      where
-        by : (t : Bool) → m ≡ if t (faulty q) (refused x q) → if t (faulty q) (refused x q) ≡ several (length s) 0 0 (many (reads h l) count p s)
-        by true e = ends payload_bad (byte q) e
-        by false e = ends x (at q) e
+        pub ends_told : (x q b : ℕ) → m ≡ untold_is x q b → untold_is x q b ≡ several (length s) 0 0 (many (reads h l) count p s)
+        ends_told x q b = by (eqb b 1)
+          where
+            by : (t : Bool) → m ≡ if t (faulty q) (refused x q) → if t (faulty q) (refused x q) ≡ several (length s) 0 0 (many (reads h l) count p s)
+            by true f = ends payload_bad (byte q) f
+            by false f = ends x (at q) f
 
-    -- the turn goes on behind the value, and takes at least a byte
-    pub again : (x : Extent) → m ≡ got x → Going s h l count p (o.from + x.length) (i + x.rows) (j + x.text) (left - 1) × (a < o.from + x.length)
-    again x k = go (read_of (length (drop o.from s)) (payload l o.code (p + a) (drop o.from s)) x (sym d ∙ k)) (opened h l a (p + a) (drop a s) o e)
-      where
-        go : Read (length (drop o.from s)) (payload l o.code (p + a) (drop o.from s)) x → Opened h l a (drop a s) o.code o.from → Going s h l count p (o.from + x.length) (i + x.rows) (j + x.text) (left - 1) × (a < o.from + x.length)
-        go q f =
-            let u = out (rw q.is_read at (payload_cut l o.code (p + a) (drop o.from s))) in
-            let v = length-drop o.from s in
-            let w : (p + a) + (length (drop a s) - length q.rest) ≡ p + (o.from + x.length) = omega (arith, u.room, q.bytes, begun, length-drop a s, g.inside) in
-            let y : q.rest ≡ drop (o.from + x.length) s = u.left ∙ rw (← q.bytes, drop-drop x.length o.from s) in
-            let some = out (rw q.is_read at (payload_some l o.code (p + a) (drop o.from s))) in (
-              record {
-                taking = g.taking;
-                inside = omega (arith, u.room, q.bytes, begun);
-                height = omega (arith, u.rows, q.bytes, q.rows, f.begins, g.height);
-                letters = omega (arith, u.letters, q.bytes, q.letters, f.begins, g.letters);
-                sum = rw (q.rows, q.letters, ← w, ← y) (sym (many_got (reads h l) (length s) i j left (p + a) (drop a s) q.tree q.rest n (same ∙ q.is_read)) ∙ g.sum);
-              },
-              by_head h l a (p + a) (drop a s) o e g.taking x.length (λ t. omega (arith, some t, q.bytes)),
-            )
+        -- the turn goes on behind the value, and takes at least a byte
+        pub again : (x : Extent) → m ≡ got x → Going s h l count p (o.from + x.length) (i + x.rows) (j + x.text) (k + 1)
+        again x f = go (read_of (length (drop o.from s)) (payload l o.code (p + a) (drop o.from s)) x (sym d ∙ f)) (opened h l a (p + a) (drop a s) o (sym e))
+          where
+            go : Read (length (drop o.from s)) (payload l o.code (p + a) (drop o.from s)) x → Opened h l a (drop a s) o.code o.from → Going s h l count p (o.from + x.length) (i + x.rows) (j + x.text) (k + 1)
+            go q r =
+                let u = out (rw q.is_read at (payload_cut l o.code (p + a) (drop o.from s))) in
+                let v = length-drop o.from s in
+                let w : (p + a) + (length (drop a s) - length q.rest) ≡ p + (o.from + x.length) = omega (arith, u.room, q.bytes, begun, length-drop a s, g.inside) in
+                let y : q.rest ≡ drop (o.from + x.length) s = u.left ∙ rw (← q.bytes, drop-drop x.length o.from s) in
+                let z : count - (k + 1) ≡ count - k - 1 = omega arith in
+                let some = out (rw q.is_read at (payload_some l o.code (p + a) (drop o.from s))) in
+                record {
+                  taking = g.taking;
+                  inside = omega (arith, u.room, q.bytes, begun);
+                  few = omega (arith, g.few, by_head h l a (p + a) (drop a s) o (sym e) g.taking x.length (λ t. omega (arith, some t, q.bytes)));
+                  height = omega (arith, u.rows, q.bytes, q.rows, r.begins, g.height);
+                  letters = omega (arith, u.letters, q.bytes, q.letters, r.begins, g.letters);
+                  sum = rw (q.rows, q.letters, ← w, ← y, z) (sym (many_got (reads h l) (length s) i j (count - k) (p + a) (drop a s) q.tree q.rest (omega arith) (same ∙ q.is_read)) ∙ g.sum);
+                }
 
-  -- a scalar that needs no look
-  pub plainly : 0 < left → (o : Start) → code_at h l a (p + a) (drop a s) ≡ got o → (w : ℕ) → Plain o.code w → w ≤ length s - o.from → Going s h l count p (o.from + w) (i + 1) j (left - 1) × (a < o.from + w)
-  plainly n o e w f k =
-      let r = opened_room h l a (p + a) o s g.inside e in
-      let q : fits w 1 0 ≡ measured (length (drop o.from s)) (payload l o.code (p + a) (drop o.from s)) = sym (f l (p + a) (drop o.from s) r.2 (rw length-drop k)) in
-      let y : j + 0 ≡ j = omega arith in
-      rw y at (again n o e (fits w 1 0) q (record { length = w; rows = 1; text = 0 }) refl)
+      -- a scalar that needs no look
+      pub plainly : (w : ℕ) → Plain o.code w → w ≤ length s - o.from → Going s h l count p (o.from + w) (i + 1) j (k + 1)
+      plainly w f m =
+          let q : fits w 1 0 ≡ measured (length (drop o.from s)) (payload l o.code (p + a) (drop o.from s)) = sym (f l (p + a) (drop o.from s) begun.2 (rw length-drop m)) in
+          let y : j + 0 ≡ j = omega arith in
+          rw y at (again (fits w 1 0) q (record { length = w; rows = 1; text = 0 }) refl)

@@ -2,7 +2,8 @@
 //
 // The functions go as the definition of reading does, by its names and in its order of checks, and count where it builds a tree.
 // They call each other with fewer levels left; values that stand side by side are taken in one loop. A room is a part of the
-// caller's bytes, and nothing beyond it is looked at.
+// caller's bytes, and nothing beyond it is looked at. The place of a value is where its code stands; an element's counts from the
+// code before it, as if that stood right in front of it.
 ghost use Rattle.std.specs.Prelude.{◌≡◌, true, false, ℕ, ◌+◌, ◌^◌, ◌≤◌, ◌<◌, T, length, take, drop, IfOk, MatchOption};
 ghost use Rattle.standard.specs.Bytes.{unbe};
 ghost use Rattle.standard.specs.Codes as codes;
@@ -13,7 +14,7 @@ ghost use Rattle.standard.specs.Outcomes as outcome;
 ghost use Rattle.standard.specs.Outcomes.{level_default};
 ghost use Rattle.standard.specs.InCode.{kind_is, reason_is};
 ghost use Rattle.reader.specs.Entries.{narrow, sure, plain_below, plain_width};
-ghost use Rattle.reader.specs.InCode.{measured_is, extent_is, Settled, stop_is, found_is, counted_is, body_is};
+ghost use Rattle.reader.specs.InCode.{measured_is, extent_is, Settled, found_is, counted_is, body_is};
 ghost use Rattle.reader.specs.Measuring.{untold_is, block, measured, several, contents, above, closed, below, reads, reach, code_at, element_of, is_compound, tally_is, Taking, Plain};
 ghost use Rattle.reader.specs.declared.measuring.Stop.TheVariants.{Refused};
 
@@ -71,6 +72,14 @@ struct Start {
     from: usize,
 }
 
+// The room behind a code, and the place of the code.
+#[derive(Clone, Copy)]
+struct Room<'a> {
+    bytes: &'a [u8],
+    place: usize,
+    ghost inside: { place + 1 + length bytes.now < 2 ^ 63 },
+}
+
 // How many values stand in a body, and where it ends.
 #[derive(Clone, Copy)]
 struct Body {
@@ -92,11 +101,11 @@ fn refused(reason: Reason, place: usize) -> Stop
 }
 
 // A scalar of so many bytes, the last of them text.
-fn fixed(s: &[u8], width: usize, text: usize, place: usize) -> Result<Extent, Stop>
-    ensures { counted_is result ≡ block (length s.now) width text place }
+fn fixed(room: Room, width: usize, text: usize) -> Result<Extent, Stop>
+    ensures { counted_is result ≡ block (length room.entry.bytes.now) width text room.entry.place }
 {
-    if s.len() < width {
-        return Err(refused(Reason::InputShort, place));
+    if room.bytes.len() < width {
+        return Err(refused(Reason::InputShort, room.place));
     }
     Ok(Extent {
         length: width,
@@ -106,6 +115,7 @@ fn fixed(s: &[u8], width: usize, text: usize, place: usize) -> Result<Extent, St
 }
 
 // Is the number of so many bytes one that its kind allows. Only that of a boolean or a char has to be looked at.
+#[tactic(auto, unfolding(standard::specs::Kinds::fair, crate::specs::Entries::sure))]
 fn fair_at(s: &[u8], width: usize, kind: Kind) -> bool
     requires { T (sure (kind_is kind) (codes.scalar (codes.whole width))) × (width ≤ length s.now) }
     ensures { result ≡ fair (kind_is kind) (unbe (take width s.now)) }
@@ -116,15 +126,16 @@ fn fair_at(s: &[u8], width: usize, kind: Kind) -> bool
     }
 }
 
-fn whole(s: &[u8], width: usize, kind: Kind, place: usize) -> Result<Extent, Stop>
+#[tactic(auto, using(crate::proofs::Scalars::whole_short, crate::proofs::Scalars::whole_bad, crate::proofs::Scalars::whole_good))]
+fn whole(room: Room, width: usize, kind: Kind) -> Result<Extent, Stop>
     requires { T (sure (kind_is kind) (codes.scalar (codes.whole width))) }
-    ensures { counted_is result ≡ measured (length s.now) (read.leaf (codes.whole width) (kind_is kind) place s.now) }
+    ensures { counted_is result ≡ measured (length room.entry.bytes.now) (read.leaf (codes.whole width) (kind_is kind) room.entry.place room.entry.bytes.now) }
 {
-    if s.len() < width {
-        return Err(refused(Reason::InputShort, place));
+    if room.bytes.len() < width {
+        return Err(refused(Reason::InputShort, room.place));
     }
-    if !fair_at(s, width, kind) {
-        return Err(refused(Reason::PayloadBad, place));
+    if !fair_at(room.bytes, width, kind) {
+        return Err(refused(Reason::PayloadBad, room.place));
     }
     Ok(Extent {
         length: width,
@@ -133,20 +144,21 @@ fn whole(s: &[u8], width: usize, kind: Kind, place: usize) -> Result<Extent, Sto
     })
 }
 
-fn sized(s: &[u8], width: usize, kind: Kind, place: usize) -> Result<Extent, Stop>
-    requires { (place + 1 + length s.now < 2 ^ 63) × T (sure (kind_is kind) (codes.scalar (codes.sized width))) }
-    ensures { counted_is result ≡ measured (length s.now) (read.leaf (codes.sized width) (kind_is kind) place s.now) }
+#[tactic(auto, unfolding(crate::specs::Entries::sure), using(crate::proofs::Scalars::sized_short, crate::proofs::Scalars::sized_beyond, crate::proofs::Scalars::sized_bad, crate::proofs::Scalars::sized_good))]
+fn sized(room: Room, width: usize, kind: Kind) -> Result<Extent, Stop>
+    requires { T (sure (kind_is kind) (codes.scalar (codes.sized width))) }
+    ensures { counted_is result ≡ measured (length room.entry.bytes.now) (read.leaf (codes.sized width) (kind_is kind) room.entry.place room.entry.bytes.now) }
 {
-    if s.len() < width {
-        return Err(refused(Reason::InputShort, place));
+    if room.bytes.len() < width {
+        return Err(refused(Reason::InputShort, room.place));
     }
-    let count = narrow_at(s, 0, width) as usize;
-    if s.len() - width < count {
-        return Err(refused(Reason::InputShort, place));
+    let count = narrow_at(room.bytes, 0, width) as usize;
+    if room.bytes.len() - width < count {
+        return Err(refused(Reason::InputShort, room.place));
     }
-    let good = text::good_length(kind, s, width, count);
+    let good = text::good_length(kind, room.bytes, width, count);
     if good < count {
-        return Err(Stop::Faulty(place + 1 + width + good));
+        return Err(Stop::Faulty(room.place + 1 + width + good));
     }
     Ok(Extent {
         length: width + count,
@@ -156,28 +168,30 @@ fn sized(s: &[u8], width: usize, kind: Kind, place: usize) -> Result<Extent, Sto
 }
 
 // The size and the count before a body, of so many bytes each.
-fn fields(s: &[u8], width: usize, place: usize) -> Result<Body, Stop>
+#[tactic(auto, using(crate::proofs::Rooms::fields_short, crate::proofs::Rooms::fields_amiss, crate::proofs::Rooms::fields_beyond, crate::proofs::Rooms::fields_got))]
+fn fields(room: Room, width: usize) -> Result<Body, Stop>
     requires { T (narrow width) }
-    ensures { (body_is width s.now result ≡ read.fields place width s.now)
-        × IfOk result (λ b. (width + width ≤ b.end) × (b.end ≤ length s.now) × (b.count < 2 ^ 32)) }
+    ensures { (body_is width room.entry.bytes.now result ≡ read.fields room.entry.place width room.entry.bytes.now)
+        × IfOk result (λ b. (width + width ≤ b.end) × (b.end ≤ length room.entry.bytes.now) × (b.count < 2 ^ 32)) }
 {
-    if s.len() < width {
-        return Err(refused(Reason::InputShort, place));
+    if room.bytes.len() < width {
+        return Err(refused(Reason::InputShort, room.place));
     }
-    let size = narrow_at(s, 0, width) as usize;
+    let size = narrow_at(room.bytes, 0, width) as usize;
     if size < width {
-        return Err(refused(Reason::SizeAmiss, place));
+        return Err(refused(Reason::SizeAmiss, room.place));
     }
-    if s.len() - width < size {
-        return Err(refused(Reason::InputShort, place));
+    if room.bytes.len() - width < size {
+        return Err(refused(Reason::InputShort, room.place));
     }
     Ok(Body {
-        count: narrow_at(s, width, width) as usize,
+        count: narrow_at(room.bytes, width, width) as usize,
         end: width + size,
     })
 }
 
 // May a compound of that kind hold so many values: a map holds pairs.
+#[tactic(auto, unfolding(standard::specs::Kinds::paired))]
 fn is_paired(kind: Kind, count: usize) -> bool
     ensures { result ≡ paired (kind_is kind) count }
 {
@@ -188,6 +202,7 @@ fn is_paired(kind: Kind, count: usize) -> bool
 }
 
 // A payload of an element has a byte at least.
+#[tactic(auto, unfolding(crate::specs::Measuring::element_of, standard::specs::Codes::is_code, standard::specs::Codes::element, standard::specs::Codes::filled))]
 fn filled(width: usize, place: usize) -> Result<(), Stop>
     ensures { found_is result ≡ element_of place (codes.scalar (codes.whole width)) }
 {
@@ -198,6 +213,7 @@ fn filled(width: usize, place: usize) -> Result<(), Stop>
 }
 
 // May a code stand for the elements of an array, whose body begins at that place.
+#[tactic(auto, unfolding(crate::specs::Measuring::element_of, standard::specs::Codes::is_code, standard::specs::Codes::element, standard::specs::Codes::filled), using(crate::proofs::Entries::entry_layout, crate::proofs::Entries::entry_none))]
 fn element_of(code: u8, place: usize) -> Result<(), Stop>
     ensures { found_is result ≡ element_of place (layout_of code) }
 {
@@ -227,6 +243,7 @@ fn row_above(values: Extent) -> Extent
 }
 
 // Values that have to use up a body of so many bytes, and the row above them, which takes `whole` bytes.
+#[tactic(auto, unfolding(crate::specs::Measuring::closed))]
 fn done(values: Extent, room: usize, whole: usize, place: usize) -> Result<Extent, Stop>
     requires { values.rows + 1 < 2 ^ 64 }
     ensures { counted_is result ≡ closed room whole place (extent_is values) }
@@ -241,17 +258,19 @@ fn done(values: Extent, room: usize, whole: usize, place: usize) -> Result<Exten
 }
 
 // A refusal in the contents of an array has the array's place, but for that of a byte of text.
-fn held(stop: Stop, place: usize) -> Stop
-    ensures { stop_is result ≡ read.held place (stop_is stop) }
+#[tactic(auto, unfolding(standard::specs::Read::held))]
+fn held(contents: Result<Extent, Stop>, place: usize) -> Result<Extent, Stop>
+    ensures { counted_is result ≡ read.held place (counted_is contents) }
 {
-    match stop {
+    contents.map_err(|stop| match stop {
         Stop::Refused(refusal) => Stop::Refused(Refusal { place, ..refusal }),
         Stop::Faulty(byte) => Stop::Faulty(byte),
-    }
+    })
 }
 
 // The code of a value that begins there, which is its first byte unless the value stands behind one that is given, as the elements of
 // an array do.
+#[tactic(auto, using(crate::proofs::Rooms::code_deep, crate::proofs::Rooms::code_none, crate::proofs::Rooms::code_own, crate::proofs::Rooms::code_given))]
 fn code_at(
     s: &[u8],
     at: usize,
@@ -294,6 +313,7 @@ fn plain_below(upper: u8) -> u8
 }
 
 // Is a code plain. Some that could be are not, and go by their entries.
+#[tactic(auto, unfolding(crate::specs::Entries::plain_code), using(crate::proofs::Plain::plain_code_lem))]
 fn is_plain(code: u8) -> bool
     ensures { result ≡ true → Plain code (plain_width code) }
 {
@@ -301,6 +321,7 @@ fn is_plain(code: u8) -> bool
 }
 
 // The width of a scalar with a plain code: 0, 1, 2, 4 and 8 for the upper halves 4 to 8.
+#[tactic(auto, using(crate::proofs::Entries::plain_shifts, crate::proofs::Entries::plain_widths))]
 fn plain_width(code: u8) -> usize
     ensures { (result ≡ plain_width code) × (result < 2 ^ 16) }
 {
@@ -309,6 +330,7 @@ fn plain_width(code: u8) -> usize
 }
 
 // A list or a map, by its code.
+#[tactic(auto, unfolding(standard::specs::Codes::entry_of, standard::specs::Codes::codes, standard::specs::Choose::lookup), using(crate::proofs::Entries::no_compound))]
 fn compound_of(code: u8) -> Option<CompoundCode>
     ensures { MatchOption result (is_compound (layout_of code) ≡ false) (λ c. (kind_of code ≡ kind_is c.kind) × (layout_of code ≡ codes.compound c.width) × T (narrow c.width)) }
 {
@@ -334,6 +356,7 @@ fn compound_of(code: u8) -> Option<CompoundCode>
 }
 
 // What was measured, as a struct.
+#[tactic(auto, unfolding(crate::specs::Measuring::tally_is))]
 fn told(m: Result<Extent, Stop>) -> Tally
     ensures { tally_is result ≡ counted_is m }
 {
@@ -395,7 +418,11 @@ fn many(
             at = end;
             rows += 1;
         } else {
-            let t = payload(&s[start.from..], start.code, place + at, levels);
+            let room = Room {
+                bytes: &s[start.from..],
+                place: place + at,
+            };
+            let t = payload(room, start.code, levels);
             if !t.fits {
                 return untold(t.reason, t.first, t.third);
             }
@@ -413,74 +440,65 @@ fn many(
 
 // What stands behind a code. Lists and maps, of which there are many, do not wait for their entry.
 #[cycle(array_behind_compound_inside_items_many_payload)]
-fn payload(s: &[u8], code: u8, place: usize, levels: usize) -> Tally
-    requires { (place + 1 + length s.now < 2 ^ 63) × (0 < levels) }
-    ensures { tally_is result ≡ measured (length s.now) (read.payload levels code place s.now) }
+fn payload(room: Room, code: u8, levels: usize) -> Tally
+    requires { 0 < levels }
+    ensures { tally_is result ≡ measured (length room.entry.bytes.now) (read.payload levels code room.entry.place room.entry.bytes.now) }
 {
     if let Some(found) = compound_of(code) {
-        return told(compound(s, found.width, found.kind, place, levels - 1));
+        return told(compound(room, found.width, found.kind, levels - 1));
     }
-    told(behind(s, code, place, levels))
+    told(behind(room, code, levels))
 }
 
 // What stands behind a code that is not a list's or a map's.
 #[cycle(array_behind_compound_inside_items_many_payload)]
-fn behind(s: &[u8], code: u8, place: usize, levels: usize) -> Result<Extent, Stop>
-    requires { (place + 1 + length s.now < 2 ^ 63) × (0 < levels) × (is_compound (layout_of code) ≡ false) }
-    ensures { counted_is result ≡ measured (length s.now) (read.payload levels code place s.now) }
+fn behind(room: Room, code: u8, levels: usize) -> Result<Extent, Stop>
+    requires { (0 < levels) × (is_compound (layout_of code) ≡ false) }
+    ensures { counted_is result ≡ measured (length room.entry.bytes.now) (read.payload levels code room.entry.place room.entry.bytes.now) }
 {
     let Some(entry) = format_code::entry_of(code) else {
-        return Err(refused(Reason::CodeUnknown, place));
+        return Err(refused(Reason::CodeUnknown, room.place));
     };
     match entry.layout {
-        Layout::Described => Ok(row_above(many(s, None, 2, place + 1, levels - 1)?)),
-        Layout::Constant(_) => fixed(s, 0, 0, place),
-        Layout::Whole(width) => whole(s, width, entry.kind, place),
-        Layout::Small(_) => fixed(s, 1, 0, place),
-        Layout::Raw(width) => fixed(s, width, width, place),
-        Layout::Sized(width) => sized(s, width, entry.kind, place),
+        Layout::Described => Ok(row_above(many(room.bytes, None, 2, room.place + 1, levels - 1)?)),
+        Layout::Constant(_) => fixed(room, 0, 0),
+        Layout::Whole(width) => whole(room, width, entry.kind),
+        Layout::Small(_) => fixed(room, 1, 0),
+        Layout::Raw(width) => fixed(room, width, width),
+        Layout::Sized(width) => sized(room, width, entry.kind),
         Layout::Compound(_) => unreachable!(),
-        Layout::Array(width) => array(s, width, place, levels - 1),
+        Layout::Array(width) => array(room, width, levels - 1),
     }
 }
 
 // A list or a map, behind its code.
 #[cycle(array_behind_compound_inside_items_many_payload)]
-fn compound(s: &[u8], width: usize, kind: Kind, place: usize, levels: usize) -> Result<Extent, Stop>
-    requires { (place + 1 + length s.now < 2 ^ 63) × T (narrow width) }
-    ensures { counted_is result ≡ measured (length s.now) (read.behind (below levels) levels (kind_is kind) place s.now (codes.compound width)) }
+fn compound(room: Room, width: usize, kind: Kind, levels: usize) -> Result<Extent, Stop>
+    requires { T (narrow width) }
+    ensures { counted_is result ≡ measured (length room.entry.bytes.now) (read.behind (below levels) levels (kind_is kind) room.entry.place room.entry.bytes.now (codes.compound width)) }
 {
-    let body = fields(s, width, place)?;
+    let body = fields(room, width)?;
     if !is_paired(kind, body.count) {
-        return Err(refused(Reason::SizeAmiss, place));
+        return Err(refused(Reason::SizeAmiss, room.place));
     }
     let from = width + width;
-    let values = many(
-        &s[from..body.end],
-        None,
-        body.count,
-        place + 1 + from,
-        levels,
-    )?;
-    done(values, body.end - from, body.end, place)
+    let children = &room.bytes[from..body.end];
+    let values = many(children, None, body.count, room.place + 1 + from, levels)?;
+    done(values, body.end - from, body.end, room.place)
 }
 
 // An array, behind its code, of whatever kind.
 #[cycle(array_behind_compound_inside_items_many_payload)]
-fn array(s: &[u8], width: usize, place: usize, levels: usize) -> Result<Extent, Stop>
-    requires { (place + 1 + length s.now < 2 ^ 63) × T (narrow width) }
-    ensures { (k : ℕ) → counted_is result ≡ measured (length s.now) (read.behind (below levels) levels k place s.now (codes.array width)) }
+fn array(room: Room, width: usize, levels: usize) -> Result<Extent, Stop>
+    requires { T (narrow width) }
+    ensures { (k : ℕ) → counted_is result ≡ measured (length room.entry.bytes.now) (read.behind (below levels) levels k room.entry.place room.entry.bytes.now (codes.array width)) }
 {
-    let body = fields(s, width, place)?;
+    let body = fields(room, width)?;
     let from = width + width;
-    inside(
-        &s[from..body.end],
-        body.count,
-        body.end,
-        place + 1 + from,
-        levels,
-    )
-    .map_err(|stop| held(stop, place))
+    let elements = &room.bytes[from..body.end];
+    let place = room.place + 1 + from;
+    let contents = inside(elements, body.count, body.end, place, levels);
+    held(contents, room.place)
 }
 
 // The body of an array that takes `whole` bytes.
@@ -510,25 +528,22 @@ fn inside(
             text: 0,
         });
     }
-    items(&body[1..], body[0], count, whole, place, levels)
+    let room = Room {
+        bytes: &body[1..],
+        place,
+    };
+    items(room, body[0], count, whole, levels)
 }
 
 // So many payloads of one code.
 #[cycle(array_behind_compound_inside_items_many_payload)]
-fn items(
-    s: &[u8],
-    code: u8,
-    count: usize,
-    whole: usize,
-    place: usize,
-    levels: usize,
-) -> Result<Extent, Stop>
-    requires { (place + 1 + length s.now < 2 ^ 63) × (count < 2 ^ 32) }
-    ensures { counted_is result ≡ contents whole (read.items (below levels) place count code s.now) }
+fn items(room: Room, code: u8, count: usize, whole: usize, levels: usize) -> Result<Extent, Stop>
+    requires { count < 2 ^ 32 }
+    ensures { counted_is result ≡ contents whole (read.items (below levels) room.entry.place count code room.entry.bytes.now) }
 {
-    element_of(code, place)?;
-    let values = many(s, Some(code), count, place, levels)?;
-    done(values, s.len(), whole, place)
+    element_of(code, room.place)?;
+    let values = many(room.bytes, Some(code), count, room.place, levels)?;
+    done(values, room.bytes.len(), whole, room.place)
 }
 
 /// Measures the value at the front of the bytes within a level limit.

@@ -11,6 +11,7 @@ use standard::limit;
 use standard::refusal::{Reason, Refusal};
 
 // What was measured, if there is room for so many rows and for so much text.
+#[tactic(auto, unfolding(crate::specs::Measuring::with_room))]
 fn with_room(extent: Extent, rows: usize, text: usize) -> Result<Extent, Refusal>
     ensures { measured_is result ≡ with_room rows text (extent_is extent) }
 {

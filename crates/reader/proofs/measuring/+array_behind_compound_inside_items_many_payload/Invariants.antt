@@ -1,6 +1,6 @@
 -- Each turn from `many` to `payload` and back costs a level; the measures order the rest. The loop of `many`: what is left from here
 -- comes to what was due at the start.
-use Rattle.std.proofs.Common.{◌+◌, ◌*◌, ◌-◌, length}
+use Rattle.std.proofs.Common.{◌+◌, ◌*◌}
 use Rattle.reader.proofs.Several.{Going}
 use Rattle.reader.proofs.measuring.+array_behind_compound_inside_items_many_payload.Given as goal
 
@@ -25,8 +25,5 @@ decreases-many l = 7 * l.levels + 2
 abbrev pub decreases-payload : goal.decreases-payload
 decreases-payload l = 7 * l.levels + 1
 
-abbrev pub invariant-many-loop-left : goal.invariant-many-loop-left
-invariant-many-loop-left l = Going l.s l.head l.levels l.count l.place l.at l.rows l.text l.left
-
-abbrev pub decreases-many-loop-left : goal.decreases-many-loop-left
-decreases-many-loop-left l = length l.s - l.at
+abbrev pub invariant-many-loop : goal.invariant-many-loop
+invariant-many-loop l = Going l.s l.given l.levels l.count l.place l.at l.rows l.text l.counter

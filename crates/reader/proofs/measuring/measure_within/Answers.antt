@@ -1,15 +1,19 @@
 -- `measure_within` takes a run of one value from the whole input, at a limit that may be named.
-use mathlib.Core.Path.{sym, ap, ◌∙◌}
-use native.Mathlib.Omega.{arith}
-use Rattle.reader.specs.InCode.{measured_is}
+use Rattle.std.proofs.Common.{sym, ap, ◌∙◌}
+use Rattle.std.proofs.lemmas.Result.{err_from_is_err_and}
+use Rattle.standard.specs.Read.{settled}
 use Rattle.reader.proofs.Whole.{measure_no, measure_is}
 use Rattle.reader.proofs.measuring.measure_within.Goals as goal
 
 pub returns-then-not-is_in_force : goal.returns-then-not-is_in_force
 returns-then-not-is_in_force c = measure_no _ _ (sym c.is_in_force.ensures ∙ c.if-not-is_in_force.true)
 
-pub many-requires : goal.many-requires
-many-requires c = omega (arith, c.well_formed)
+pub returns-in_err-many : goal.returns-in_err-many
+unfolding settled
+returns-in_err-many c =
+    let p = err_from_is_err_and c.from_residual.result c.from_residual.ensures.1 in
+    rw (p.1, p.2.0, p.2.1) (measure_is _ _ (sym c.is_in_force.ensures ∙ c.if-not-is_in_force.false) _ c.in_err-many.ensures)
 
 pub returns : goal.returns
-returns c = ap measured_is c.settled.ensures ∙ measure_is _ _ (sym c.is_in_force.ensures ∙ c.if-not-is_in_force.false) _ c.many.ensures
+unfolding settled
+returns c = measure_is _ _ (sym c.is_in_force.ensures ∙ c.if-not-is_in_force.false) _ c.in_ok-many.ensures
