@@ -265,7 +265,7 @@ parent_family l c k n w cs h a = go (nests (style_of k) k n) refl
     go false p e = cc
 
 -- a good text and its length
-pub letters_leaf : (s k n z : ℕ) (x : List ℕ) → Some z ≡ text_size k n x → LeafRow (lettered s) k n x n z
+letters_leaf : (s k n z : ℕ) (x : List ℕ) → Some z ≡ text_size k n x → LeafRow (lettered s) k n x n z
 unfolding text_size is_kind ranged letters children head
 letters_leaf s k n z x h = if_case (λ (o : Option ℕ). Some z ≡ o → LeafRow (lettered s) k n x n z) (leb n most && (leb n (length x) && clean k (take n x))) (Some (if (ltb n short_end) 2 5 + n)) None
     (λ t i.
@@ -284,6 +284,9 @@ letters_leaf s k n z x h = if_case (λ (o : Option ℕ). Some z ≡ o → LeafRo
     long : (t : Bool) → length (if t (s ∷ be 1 n) ((k % 256) ∷ be 4 n)) ≡ if t 2 5
     long true = coded_long s 1 n
     long false = coded_long (k % 256) 4 n
+
+pub text_leaf : (s k n z : ℕ) (x : List ℕ) → style_of k ≡ lettered s → Some z ≡ text_size k n x → LeafRow (style_of k) k n x n z
+text_leaf s k n z x e h = rw e (letters_leaf s k n z x h)
 
 number_row : (s : Style) (k n z : ℕ) (x : List ℕ) → Some z ≡ number_size s k n → LeafRow s k n x 0 z
 unfolding number_size is_kind letters children head
@@ -338,11 +341,11 @@ bare_strange l c k n w e = nest_bare l c k n w (strange_nests (style_of k) k n e
 
 -- an element of an array that tells the kind j
 
-pub bare_low : (l j : ℕ) (w : List ℕ) → T (member (style_of j)) → j < 0xd0 → Bare l (like j) w
+pub bare_low : (l j : ℕ) (w : List ℕ) → T (member (style_of j)) → leb 0xd0 j ≡ false → Bare l (like j) w
 unfolding allowed
 bare_low l j w t h i o x k n q =
     let e : k ≡ j = eqb→eq k j (good l (like j) i o w x k n q).fits in
-    nest_case k n (λ z. z) (λ i r. absurd (omega (arith, leb→le 0xd0 j (subst T (rw e at r.fit) t))))
+    nest_case k n (λ z. z) (λ i r. absurd (subst T (rw e at r.fit ∙ h) t))
 
 pub bare_unlike : (l j k n : ℕ) (w : List ℕ) → ¬ (k ≡ j) → Bare l (like j) (k ∷ n ∷ w)
 unfolding allowed

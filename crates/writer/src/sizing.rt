@@ -1,5 +1,5 @@
 // Sizing: the checks of all rows and the bytes that they will be written to (docs/FORMAT.md, 6.1).
-ghost use Rattle.std.specs.Prelude.{◌≡◌, None, ◌+◌, ◌*◌, ◌-◌, ◌^◌, ◌≤◌, ◌<◌, T, eqb, length, drop};
+ghost use Rattle.std.specs.Prelude.{◌≡◌, None, ◌+◌, ◌*◌, ◌-◌, ◌^◌, ◌≤◌, ◌<◌, T, eqb, leb, length, drop};
 ghost use Rattle.std.proofs.lemmas.List.Edits.{sets};
 ghost use Rattle.standard.specs.Choose.{if};
 ghost use Rattle.standard.specs.Bytes.{be};
@@ -154,6 +154,7 @@ fn size_text(kind: Kind, number: u64, text: &[u8], from: usize) -> Option<usize>
 }
 
 // A row of that kind and number, whose text begins at `from`.
+#[tactic(auto, unfolding(crate::specs::Sizing::nests, standard::specs::Kinds::style_of, standard::specs::Kinds::kinds, standard::specs::Choose::lookup, standard::specs::Table::children), using(crate::proofs::Turns::number_leaf, crate::proofs::Turns::not_parent))]
 fn take_kind(kind: Kind, number: u64, text: &[u8], from: usize) -> Option<Taken>
     requires { from ≤ length text.now }
     ensures { Seen (kind_is kind) number (drop from text.now) result }
@@ -190,8 +191,17 @@ fn take_row(table: Table, row: usize, from: usize, levels: usize) -> Option<Take
     if let Some(size) = number::plain_size(word, number) {
         return Some(Taken::Number { size });
     }
-    let kind = Kind::try_from(word).ok()?;
+    let Ok(kind) = Kind::try_from(word) else {
+        return None;
+    };
     take_kind(kind, number, table.text, from)
+}
+
+// May an element of that kind have children.
+fn has_body(kind: Kind) -> bool
+    ensures { result ≡ leb 0xd0 (kind_is kind) }
+{
+    matches!(kind, Kind::List | Kind::Map | Kind::Array)
 }
 
 // The children of the element at `row`, in an array that tells that kind, where it is a good list, map or array that has some.
@@ -200,7 +210,10 @@ fn take_element(table: Table, row: usize, levels: usize, told: Kind) -> Option<C
     requires { (2 * row ≤ length table.words.now) × T (member (style_of (kind_is told))) }
     ensures { Nested levels (kind_is told) (drop (2 * row) table.entry.words.now) result }
 {
-    if !matches!(told, Kind::List | Kind::Map | Kind::Array) || levels == 0 {
+    if !has_body(told) {
+        return None;
+    }
+    if levels == 0 {
         return None;
     }
     let (word, number) = table.row(row)?;
