@@ -149,16 +149,17 @@ fn sized(room: Room, width: usize, kind: Kind) -> Result<Extent, Stop>
     requires { T (sure (kind_is kind) (codes.scalar (codes.sized width))) }
     ensures { counted_is result ≡ measured (length room.entry.bytes.now) (read.leaf (codes.sized width) (kind_is kind) room.entry.place room.entry.bytes.now) }
 {
-    if room.bytes.len() < width {
-        return Err(refused(Reason::InputShort, room.place));
+    let Room { bytes, place } = room;
+    if bytes.len() < width {
+        return Err(refused(Reason::InputShort, place));
     }
-    let count = narrow_at(room.bytes, 0, width) as usize;
-    if room.bytes.len() - width < count {
-        return Err(refused(Reason::InputShort, room.place));
+    let count = narrow_at(bytes, 0, width) as usize;
+    if bytes.len() - width < count {
+        return Err(refused(Reason::InputShort, place));
     }
-    let good = text::good_length(kind, room.bytes, width, count);
+    let good = text::good_length(kind, bytes, width, count);
     if good < count {
-        return Err(Stop::Faulty(room.place + 1 + width + good));
+        return Err(Stop::Faulty(place + 1 + width + good));
     }
     Ok(Extent {
         length: width + count,
@@ -174,18 +175,19 @@ fn fields(room: Room, width: usize) -> Result<Body, Stop>
     ensures { (body_is width room.entry.bytes.now result ≡ read.fields room.entry.place width room.entry.bytes.now)
         × IfOk result (λ b. (width + width ≤ b.end) × (b.end ≤ length room.entry.bytes.now) × (b.count < 2 ^ 32)) }
 {
-    if room.bytes.len() < width {
-        return Err(refused(Reason::InputShort, room.place));
+    let Room { bytes, place } = room;
+    if bytes.len() < width {
+        return Err(refused(Reason::InputShort, place));
     }
-    let size = narrow_at(room.bytes, 0, width) as usize;
+    let size = narrow_at(bytes, 0, width) as usize;
     if size < width {
-        return Err(refused(Reason::SizeAmiss, room.place));
+        return Err(refused(Reason::SizeAmiss, place));
     }
-    if room.bytes.len() - width < size {
-        return Err(refused(Reason::InputShort, room.place));
+    if bytes.len() - width < size {
+        return Err(refused(Reason::InputShort, place));
     }
     Ok(Body {
-        count: narrow_at(room.bytes, width, width) as usize,
+        count: narrow_at(bytes, width, width) as usize,
         end: width + size,
     })
 }
@@ -248,13 +250,13 @@ fn done(values: Extent, room: usize, whole: usize, place: usize) -> Result<Exten
     requires { values.rows + 1 < 2 ^ 64 }
     ensures { counted_is result ≡ closed room whole place (extent_is values) }
 {
-    if values.length != room {
-        return Err(refused(Reason::SizeAmiss, place));
+    if values.length == room {
+        return Ok(Extent {
+            length: whole,
+            ..row_above(values)
+        });
     }
-    Ok(Extent {
-        length: whole,
-        ..row_above(values)
-    })
+    Err(refused(Reason::SizeAmiss, place))
 }
 
 // A refusal in the contents of an array has the array's place, but for that of a byte of text.

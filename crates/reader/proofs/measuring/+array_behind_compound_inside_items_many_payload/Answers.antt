@@ -191,6 +191,11 @@ many-slice_bounds-room-count t c = (begun _ _ _ _ _ _ _ _ _ c.loop.invariant c.l
 pub many-slice_bounds-room-start : goal.many-slice_bounds-room-start
 many-slice_bounds-room-start t c = (begun _ _ _ _ _ _ _ _ _ c.loop.invariant c.loop-test.true _ c.in_ok-start.ensures).0
 
+pub many-invariant_of-room : goal.many-invariant_of-room
+many-invariant_of-room t c =
+    let b = begun _ _ _ _ _ _ _ _ _ c.loop.invariant c.loop-test.true _ c.in_ok-start.ensures in
+    omega (arith, b.0, b.1, c.loop.invariant.inside, part_length c.in_ok-start.start.from (length c.args.s.now) c.args.s.now b.0 (omega arith))
+
 pub many-payload-t-requires : goal.many-payload-t-requires
 many-payload-t-requires t c =
     let b = begun _ _ _ _ _ _ _ _ _ c.loop.invariant c.loop-test.true _ c.in_ok-start.ensures in
@@ -218,11 +223,11 @@ many-overflow_add-text t c =
 
 pub many-loop-preserved : goal.many-loop-preserved
 many-loop-preserved t c = elim c.if-is_plain.branch [
-    | many-then-is_plain+then-end-s w ↦
+  | many-then-is_plain+then-end-s w ↦
       rw (w.at-is, w.rows-is, w.text-is) (plainly _ _ _ _ _ _ _ _ _ c.loop.invariant c.loop-test.true _ c.in_ok-start.ensures _ (rw c.plain_width.ensures.0 (c.is_plain.ensures w.if-is_plain.true)) (omega (arith, w.if-end-s.true)))
-    | many-else-is_plain+else-not-t w ↦
+  | many-else-is_plain+else-not-t w ↦
       rw (w.at-is, w.rows-is, w.text-is) (again _ _ _ _ _ _ _ _ _ c.loop.invariant c.loop-test.true _ c.in_ok-start.ensures _ (rw rest at w.payload-t.ensures) _ (tally_fits w.payload-t.result (not-false _ w.if-not-t.false)))
-  ]
+]
 
 pub many-returns : goal.many-returns
 many-returns t c = end _ _ _ _ _ _ _ _ _ c.loop.invariant (omega arith)
