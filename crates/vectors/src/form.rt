@@ -1,267 +1,206 @@
-// The fields of a stored case (data/README.md). Each function reads at a place of the line and gives the place behind what it read, or
-// NOWHERE where something else stands there. Nothing is read at NOWHERE, so a line is as it should be when its last field ends it.
-ghost use Rattle.std.specs.Prelude.{◌≡◌, ◌+◌, ◌*◌, ◌<◌, ◌≤◌, length};
-ghost use Rattle.io.specs.Counts.{IsPrefixLen};
+// The fields of a stored case (data/README.md). Each method of `Fields` takes what it names from the front of the line. Where something
+// else stands there it gives None, and the line is no case.
+ghost use Rattle.std.specs.Prelude.{◌≡◌, ◌==◌, ◌<◌, ◌≤◌, length, IfSome, IsTrue};
 ghost use Rattle.vectors.specs.Form.{digit_of, Ahead};
 
-const NOWHERE: usize = usize::MAX;
+use crate::due::{Due, Numbered};
 
-// A number, and the place behind it.
-#[derive(Clone, Copy)]
-pub(crate) struct Found {
-    pub(crate) value: u64,
-    pub(crate) at: usize,
-}
-
-// How many items of a buffer were filled, and the place behind them.
-#[derive(Clone, Copy)]
-pub(crate) struct Filled {
-    pub(crate) count: usize,
-    pub(crate) at: usize,
-}
-
-// A refusal, or number 0 for success, and the place behind it.
-#[derive(Clone, Copy)]
-pub(crate) struct Answer {
-    pub(crate) number: u64,
-    pub(crate) place: u64,
-    pub(crate) at: usize,
-}
-
-// The value of a digit, and 16 for any other byte.
-fn digit(b: u8) -> u64
-    ensures { result ≡ digit_of b }
+// The value of a digit.
+fn digit(byte: u8) -> Option<u8>
+    ensures { result ≡ digit_of byte }
 {
-    if b < b'0' {
-        return 16;
-    }
-    if b <= b'9' {
-        return (b - b'0') as u64;
-    }
-    if b < b'a' {
-        return 16;
-    }
-    if b <= b'f' {
-        return (b - b'a') as u64 + 10;
-    }
-    16
-}
-
-fn nothing() -> Found
-    ensures { (result.value ≡ 0) × (result.at ≡ 18446744073709551615) }
-{
-    Found {
-        value: 0,
-        at: NOWHERE,
+    match byte {
+        b'0'..=b'9' => Some(byte - b'0'),
+        b'a'..=b'f' => Some(byte - b'a' + 10),
+        _ => None,
     }
 }
 
-// The place behind that byte.
-pub(crate) fn after(line: &[u8], at: usize, b: u8) -> usize
-    ensures { Ahead line.now at result }
-{
-    if line.len() <= at {
-        return NOWHERE;
-    }
-    if line[at] == b {
-        return at + 1;
-    }
-    NOWHERE
-}
-
-// A number in base 10 or 16.
-pub(crate) fn number(line: &[u8], at: usize, base: u64) -> Found
-    requires { (0 < base) × (base ≤ 16) }
-    ensures { Ahead line.now at result.at }
-{
-    let mut value: u64 = 0;
-    let mut i = at;
-    while i < line.len() {
-        let d = digit(line[i]);
-        if base <= d {
-            break;
-        }
-        if (u64::MAX - d) / base < value {
-            return nothing();
-        }
-        value = value * base + d;
-        i += 1;
-    }
-    if i == at {
-        return nothing();
-    }
-    Found { value, at: i }
+// What a field has one after another, each once or several times.
+pub(crate) trait Item: Copy {
+    // The one at the front. A copy of it cannot fail.
+    fn of(fields: &mut Fields<'_>) -> Option<Self>
+        ensures ahead { Ahead result fields.old.rest.now fields.new.rest.now }
+        ensures plain { IfSome result (λ item. Self.is_infallible item) };
 }
 
 // A byte in two digits.
-fn pair(line: &[u8], at: usize) -> Found
-    ensures { (result.value < 256) × Ahead line.now at result.at }
-{
-    if line.len() < 2 {
-        return nothing();
-    }
-    if line.len() - 2 < at {
-        return nothing();
-    }
-    let high = digit(line[at]);
-    let low = digit(line[at + 1]);
-    if 15 < high {
-        return nothing();
-    }
-    if 15 < low {
-        return nothing();
-    }
-    Found {
-        value: high * 16 + low,
-        at: at + 2,
+impl Item for u8 {
+    fn of(fields: &mut Fields<'_>) -> Option<u8> {
+        let high = fields.digit(16)?;
+        let low = fields.digit(16)?;
+        Some(16 * high + low)
     }
 }
 
-// How often an item stands: `*N`, or once.
-fn times(line: &[u8], at: usize) -> Found
-    ensures { at ≤ result.at }
-{
-    let star = after(line, at, b'*');
-    if star == NOWHERE {
-        return Found { value: 1, at };
-    }
-    number(line, star, 10)
-}
-
-// How often an item stands, and the place behind that and the comma after it. More than `most` are not taken.
-fn run(line: &[u8], at: usize, most: usize) -> Found
-    ensures { (result.value ≤ most) × (at ≤ result.at) }
-{
-    let n = times(line, at);
-    if (most as u64) < n.value {
-        return nothing();
-    }
-    let comma = after(line, n.at, b',');
-    if comma == NOWHERE {
-        return n;
-    }
-    Found {
-        value: n.value,
-        at: comma,
+// A row: `KIND:NUMBER`.
+impl Item for [u64; 2] {
+    fn of(fields: &mut Fields<'_>) -> Option<[u64; 2]> {
+        let kind = fields.number(16)?;
+        fields.mark(b':')?;
+        let number = fields.number(10)?;
+        Some([kind, number])
     }
 }
 
-// The place behind a `-`, which stands for an empty field.
-fn past_dash(line: &[u8], at: usize) -> usize {
-    let dash = after(line, at, b'-');
-    if dash == NOWHERE {
-        return at;
-    }
-    dash
+// What is left of a line.
+#[derive(Clone, Copy)]
+pub(crate) struct Fields<'a> {
+    rest: &'a [u8],
 }
 
-fn put_bytes(out: &mut [u8], from: usize, byte: u8, times: usize)
-    requires { from + times ≤ length out.old }
-{
-    let mut k: usize = 0;
-    while k < times {
-        out[from + k] = byte;
-        k += 1;
+impl<'a> Fields<'a> {
+    pub(crate) fn of(line: &'a [u8]) -> Fields<'a> {
+        Fields { rest: line }
     }
-}
 
-// A field of bytes, to the front of `out`.
-pub(crate) fn bytes(line: &[u8], at: usize, out: &mut [u8]) -> Filled
-    ensures { IsPrefixLen result.count out.new }
-{
-    let mut n: usize = 0;
-    let mut i = at;
-    while i < line.len() {
-        if 15 < digit(line[i]) {
-            break;
+    pub(crate) fn is_done(&self) -> bool
+        ensures { result ≡ (length self.now.rest.now == 0) }
+    {
+        self.rest.is_empty()
+    }
+
+    // The end of the line.
+    pub(crate) fn end(&self) -> Option<()> {
+        self.is_done().then_some(())
+    }
+
+    fn is_at_digit(&self) -> bool {
+        self.rest.first().is_some_and(|byte| digit(*byte).is_some())
+    }
+
+    // Whether that byte is at the front, and then it is taken.
+    fn skip(&mut self, byte: u8) -> bool
+        ensures taken { IsTrue result → length self.new.rest.now < length self.old.rest.now }
+        ensures left { length self.new.rest.now ≤ length self.old.rest.now }
+    {
+        match self.rest {
+            [first, rest @ ..] if *first == byte => {
+                self.rest = rest;
+                true
+            }
+            _ => false,
         }
-        let byte = pair(line, i);
-        let r = run(line, byte.at, out.len() - n);
-        let often = r.value as usize;
-        put_bytes(out, n, byte.value as u8, often);
-        n += often;
-        i = r.at;
     }
-    Filled {
-        count: n,
-        at: past_dash(line, i),
-    }
-}
 
-fn put_rows(out: &mut [u64], from: usize, kind: u64, number: u64, times: usize)
-    requires { from + 2 * times ≤ length out.old }
-{
-    let mut k: usize = 0;
-    while k < times {
-        out[from + 2 * k] = kind;
-        out[from + 2 * k + 1] = number;
-        k += 1;
+    // That byte.
+    fn mark(&mut self, byte: u8) -> Option<()>
+        ensures { Ahead result self.old.rest.now self.new.rest.now }
+    {
+        self.skip(byte).then_some(())
     }
-}
 
-// Rows, to the front of `out`.
-fn rows(line: &[u8], at: usize, out: &mut [u64]) -> Filled
-    ensures { IsPrefixLen result.count out.new }
-{
-    let mut n: usize = 0;
-    let mut i = at;
-    while i < line.len() {
-        if 15 < digit(line[i]) {
-            break;
+    // The space between two fields.
+    pub(crate) fn space(&mut self) -> Option<()>
+        ensures { Ahead result self.old.rest.now self.new.rest.now }
+    {
+        self.mark(b' ')
+    }
+
+    fn digit(&mut self, base: u8) -> Option<u8>
+        ensures ahead { Ahead result self.old.rest.now self.new.rest.now }
+        ensures below { IfSome result (λ d. d < base) }
+    {
+        let (first, rest) = self.rest.split_first()?;
+        let value = digit(*first)?;
+        if base <= value {
+            return None;
         }
-        let kind = number(line, i, 16);
-        let second = number(line, after(line, kind.at, b':'), 10);
-        let r = run(line, second.at, (out.len() - n) / 2);
-        let often = r.value as usize;
-        put_rows(out, n, kind.value, second.value, often);
-        n += 2 * often;
-        i = r.at;
+        self.rest = rest;
+        Some(value)
     }
-    Filled { count: n, at: i }
-}
 
-// A field of words, to the front of `out`: rows, and at the end perhaps a lone word behind a `+`.
-pub(crate) fn words(line: &[u8], at: usize, out: &mut [u64]) -> Filled
-    ensures { IsPrefixLen result.count out.new }
-{
-    let all = rows(line, at, out);
-    let n = all.count;
-    let plus = after(line, all.at, b'+');
-    if plus == NOWHERE {
-        return Filled {
-            count: n,
-            at: past_dash(line, all.at),
-        };
+    // A number in base 10 or 16.
+    fn number(&mut self, base: u8) -> Option<u64>
+        ensures { Ahead result self.old.rest.now self.new.rest.now }
+    {
+        let mut value = u64::from(self.digit(base)?);
+        while let Some(digit) = self.digit(base) {
+            value = value
+                .checked_mul(u64::from(base))?
+                .checked_add(u64::from(digit))?;
+        }
+        Some(value)
     }
-    let lone = number(line, plus, 16);
-    if out.len() <= n {
-        return Filled {
-            count: n,
-            at: NOWHERE,
-        };
-    }
-    out[n] = lone.value;
-    Filled {
-        count: n + 1,
-        at: lone.at,
-    }
-}
 
-// An answer: `!NUMBER@PLACE` for a refusal; for success the `=` before what follows.
-pub(crate) fn answer_at(line: &[u8], at: usize) -> Answer {
-    let mark = after(line, at, b'!');
-    if mark == NOWHERE {
-        return Answer {
-            number: 0,
-            place: 0,
-            at: after(line, at, b'='),
-        };
+    // A length, a place or the like, in base 10.
+    pub(crate) fn count(&mut self) -> Option<usize>
+        ensures { Ahead result self.old.rest.now self.new.rest.now }
+    {
+        Some(self.number(10)? as usize)
     }
-    let n = number(line, mark, 10);
-    let place = number(line, after(line, n.at, b'@'), 10);
-    Answer {
-        number: n.value,
-        place: place.value,
-        at: place.at,
+
+    // How often an item stands: `*N`, or once. A comma may follow. More than `most` are not taken.
+    fn times(&mut self, most: usize) -> Option<usize>
+        ensures within { IfSome result (λ n. n ≤ most) }
+        ensures left { IfSome result (λ _. length self.new.rest.now ≤ length self.old.rest.now) }
+    {
+        let times = if self.skip(b'*') { self.count()? } else { 1 };
+        if most < times {
+            return None;
+        }
+        self.skip(b',');
+        Some(times)
+    }
+
+    // Items to the front of `out`, and how many there are.
+    fn items<T: Item>(&mut self, out: &mut [T]) -> Option<usize>
+        ensures { IfSome result (λ n. n ≤ length out.new) }
+    {
+        let mut filled = 0;
+        while self.is_at_digit() {
+            let item = T::of(self)?;
+            let times = self.times(out.len() - filled)?;
+            out[filled..filled + times].fill(item);
+            filled += times;
+        }
+        Some(filled)
+    }
+
+    // A field of bytes, to the front of `out`.
+    pub(crate) fn bytes<'b>(&mut self, out: &'b mut [u8]) -> Option<&'b [u8]> {
+        let filled = self.items(out)?;
+        self.skip(b'-');
+        Some(&out[..filled])
+    }
+
+    // A field of words, to the front of `out`: rows, and at the end perhaps a lone word behind a `+`.
+    pub(crate) fn words<'b>(&mut self, out: &'b mut [u64]) -> Option<&'b [u64]> {
+        let (rows, _) = out.as_chunks_mut::<2>();
+        let filled = 2 * self.items(rows)?;
+        if self.skip(b'+') {
+            *out.get_mut(filled)? = self.number(16)?;
+            return Some(&out[..filled + 1]);
+        }
+        self.skip(b'-');
+        Some(&out[..filled])
+    }
+
+    // An answer: `!NUMBER@PLACE` for a refusal; for success the `=` before what follows.
+    pub(crate) fn answer(&mut self) -> Option<Due<()>>
+        ensures { Ahead result self.old.rest.now self.new.rest.now }
+    {
+        if !self.skip(b'!') {
+            self.mark(b'=')?;
+            return Some(Ok(()));
+        }
+        let number = self.number(10)?;
+        self.mark(b'@')?;
+        let place = self.count()?;
+        // No refusal has number 0, and a case that tells it is one of success.
+        if number == 0 {
+            return Some(Ok(()));
+        }
+        Some(Err(Numbered { number, place }))
+    }
+
+    // An answer whose success is a length.
+    pub(crate) fn length(&mut self) -> Option<Due<usize>>
+        ensures { Ahead result self.old.rest.now self.new.rest.now }
+    {
+        match self.answer()? {
+            Ok(()) => Some(Ok(self.count()?)),
+            Err(refusal) => Some(Err(refusal)),
+        }
     }
 }

@@ -2,10 +2,10 @@
 // and how many answers were right. Its exit status says nothing: what it prints is held to the file `stdout`.
 #![tactic(auto)]
 
-ghost use Rattle.std.specs.Prelude.{◌+◌, ◌^◌, ◌<◌, ◌≤◌, length};
-ghost use Rattle.io.specs.Counts.{IsPrefixLen};
+ghost use Rattle.std.specs.Prelude.{◌+◌, ◌^◌, ◌<◌, ◌≤◌, length, IfSome};
 
 mod call;
+mod due;
 mod form;
 mod reading;
 mod writing;
@@ -18,144 +18,82 @@ use std::rt::Files;
 // No file is longer.
 const FILE_MOST: usize = 0x100_0000;
 
-// What the cases of a file replay.
-#[derive(Clone, Copy)]
-enum Entry {
-    Size,
-    Write,
-    Read,
-    Walk,
-    Start,
-}
-
 // How many cases there were, and how many of their answers were right.
 #[derive(Clone, Copy)]
 struct Tally {
-    cases: u64,
-    right: u64,
+    cases: usize,
+    right: usize,
 }
 
-// The same of one line, with its length.
-#[derive(Clone, Copy)]
-struct Line {
-    length: usize,
-    cases: u64,
-    right: u64,
-}
-
-// How many answers of a case are right.
-fn right_in(entry: Entry, line: &[u8]) -> u64
-    ensures { result ≤ 2 }
-{
-    match entry {
-        Entry::Size => writing::size_case(line),
-        Entry::Write => writing::write_case(line),
-        Entry::Read => reading::read_case(line),
-        Entry::Walk => reading::walk_case(line),
-        Entry::Start => reading::start_case(line),
+// The first line of what a file has from a place on. There is none at the file's end, or where the read fails.
+fn line_at<'a>(file: &File, at: usize, buffer: &'a mut [u8]) -> Option<&'a [u8]> {
+    let n = file.read_at(buffer, at as u64).unwrap_or(0);
+    if n == 0 {
+        return None;
     }
-}
-
-// How many answers a case has.
-fn answers_in(entry: Entry) -> u64 {
-    match entry {
-        Entry::Size => 1,
-        Entry::Write => 2,
-        Entry::Read => 2,
-        Entry::Walk => 1,
-        Entry::Start => 1,
-    }
+    buffer[..n].split(|byte| *byte == b'\n').next()
 }
 
 // A failed write is not looked at: what the program prints is then not what it should be.
-fn print(rt: &impl Print, s: &[u8]) {
-    let _ = rt.write_all(s);
-}
-
-// The length of the first line.
-fn line_end(s: &[u8]) -> usize
-    ensures { IsPrefixLen result s.now }
-{
-    let mut i: usize = 0;
-    while i < s.len() {
-        if s[i] == b'\n' {
-            return i;
-        }
-        i += 1;
+fn print_line(rt: &impl Print, name: &str, line: &[u8]) {
+    for part in [name.as_bytes(), b" differs: ", line, b"\n"] {
+        let _ = rt.write_all(part);
     }
-    i
 }
 
-// Replays a case, and prints it where it differs.
-fn replay_case(rt: &impl Print, entry: Entry, name: &[u8], line: &[u8]) -> u64
-    ensures { result ≤ 2 }
+// Replays a case of N answers, and prints it where it differs. How many answers are right: none where the line is not as it should be.
+fn replay_case<const N: usize, F: Fn(&[u8]) -> Option<[bool; N]>>(
+    rt: &impl Print,
+    name: &str,
+    line: &[u8],
+    case: &F,
+) -> usize
+    requires { F.IsAlwaysCallable case.now }
+    ensures { result ≤ N }
 {
-    let right = right_in(entry, line);
-    if right < answers_in(entry) {
-        print(rt, name);
-        print(rt, b" differs: ");
-        print(rt, line);
-        print(rt, b"\n");
+    let answers = case(line).unwrap_or([false; N]);
+    let right = answers.iter().filter(|right| **right).count();
+    if right < N {
+        print_line(rt, name, line);
     }
     right
 }
 
-// Replays the first line of what is left of a file. A line that is empty or begins with `#` is no case.
-fn replay_line(rt: &impl Print, entry: Entry, name: &[u8], rest: &[u8]) -> Line
-    ensures { (result.length ≤ length rest.now + 1) × (result.cases ≤ 1) × (result.right ≤ 2) }
+// Replays all lines of a file, one after another. A line that is empty or begins with `#` is no case.
+fn replay_lines<const N: usize, F: Fn(&[u8]) -> Option<[bool; N]>>(
+    rt: &impl Print,
+    name: &str,
+    file: &File,
+    case: &F,
+) -> Tally
+    requires few { N ≤ 2 }
+    requires callable { F.IsAlwaysCallable case.now }
 {
-    if rest.len() == 0 {
-        return Line {
-            length: 0,
-            cases: 0,
-            right: 0,
-        };
-    }
-    let end = line_end(rest);
-    if rest[0] == b'#' || rest[0] == b'\n' {
-        return Line {
-            length: end + 1,
-            cases: 0,
-            right: 0,
-        };
-    }
-    Line {
-        length: end + 1,
-        cases: 1,
-        right: replay_case(rt, entry, name, &rest[..end]),
-    }
-}
-
-// Replays the line at a place of a file. At the file's end there is none, of length 0.
-fn replay_at(rt: &impl Print, entry: Entry, name: &[u8], file: &File, at: usize) -> Line
-    requires { at < 2 ^ 62 }
-    ensures { (result.length < 2 ^ 62) × (result.cases ≤ 1) × (result.right ≤ 2) }
-{
-    let mut buffer = io::buffer();
-    // where the read fails, as at the file's end
-    let n = file.read_at(&mut buffer, at as u64).unwrap_or(0);
-    replay_line(rt, entry, name, &buffer[..n])
-}
-
-// Replays all lines of a file, one after another.
-fn replay_lines(rt: &impl Print, entry: Entry, name: &[u8], file: &File) -> Tally {
-    let mut at: usize = 0;
-    let mut cases: u64 = 0;
-    let mut right: u64 = 0;
+    let mut at = 0;
+    let mut all = Tally { cases: 0, right: 0 };
     while at < FILE_MOST {
-        let line = replay_at(rt, entry, name, file, at);
-        if line.length == 0 {
+        let mut buffer = io::buffer();
+        let Some(line) = line_at(file, at, &mut buffer) else {
             break;
+        };
+        at += line.len() + 1;
+        if line.first().is_some_and(|byte| *byte != b'#') {
+            all.cases += 1;
+            all.right += replay_case(rt, name, line, case);
         }
-        at += line.length;
-        cases += line.cases;
-        right += line.right;
     }
-    Tally { cases, right }
+    all
 }
 
-// Replays a file, and prints its cases and how many answers were right.
-fn replay<R: Files<File = File> + Print + Eprint>(rt: &R, entry: Entry, name: &str) {
+// Replays a file whose cases have N answers each, and prints its cases and how many answers were right.
+fn replay<
+    const N: usize,
+    F: Fn(&[u8]) -> Option<[bool; N]>,
+    R: Files<File = File> + Print + Eprint,
+>(rt: &R, name: &str, case: F)
+    requires few { N ≤ 2 }
+    requires callable { F.IsAlwaysCallable case }
+{
     let file = match fs::open(rt, name) {
         Ok(file) => file,
         Err(e) => {
@@ -163,20 +101,18 @@ fn replay<R: Files<File = File> + Print + Eprint>(rt: &R, entry: Entry, name: &s
             return;
         }
     };
-    let all = replay_lines(rt, entry, name.as_bytes(), &file);
-    let cases = all.cases;
-    let right = all.right;
+    let Tally { cases, right } = replay_lines(rt, name, &file, &case);
     let _ = println!(rt; "{name} {cases} cases, {right} answers right");
 }
 
 fn main(rt: HostRuntime) {
-    replay(&rt, Entry::Size, "size.txt");
-    replay(&rt, Entry::Write, "write.txt");
-    replay(&rt, Entry::Write, "own_write.txt");
-    replay(&rt, Entry::Write, "original.txt");
-    replay(&rt, Entry::Read, "read.txt");
-    replay(&rt, Entry::Read, "read_room.txt");
-    replay(&rt, Entry::Read, "own_read.txt");
-    replay(&rt, Entry::Walk, "walk.txt");
-    replay(&rt, Entry::Start, "own_walk.txt");
+    replay(&rt, "size.txt", writing::size_case);
+    replay(&rt, "write.txt", writing::write_case);
+    replay(&rt, "own_write.txt", writing::write_case);
+    replay(&rt, "original.txt", writing::write_case);
+    replay(&rt, "read.txt", reading::read_case);
+    replay(&rt, "read_room.txt", reading::read_case);
+    replay(&rt, "own_read.txt", reading::read_case);
+    replay(&rt, "walk.txt", reading::walk_case);
+    replay(&rt, "own_walk.txt", reading::start_case);
 }
