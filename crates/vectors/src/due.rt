@@ -1,4 +1,6 @@
 // What is due of a call: an answer, in each form of the call that the case is about.
+ghost use Rattle.std.specs.Prelude.{◌≤◌};
+
 use standard::limit;
 use standard::refusal::Refusal;
 
@@ -34,16 +36,26 @@ pub(crate) fn in_each_form<F: FnMut(Option<usize>) -> bool>(limit: usize, mut is
     is_right(Some(limit)) && (limit != limit::DEFAULT || is_right(None))
 }
 
-// Fills memory before it is lent.
-pub(crate) fn fill<T: Copy, F: Fn(usize) -> T>(memory: &mut [T], at: F)
-    requires { F.IsAlwaysCallable at }
-{
-    for (i, item) in memory.iter_mut().enumerate() {
-        *item = at(i);
-    }
+// How many answers a case has, at most two, and how many of them are right.
+#[derive(Clone, Copy)]
+pub(crate) struct Score {
+    answers: usize,
+    pub(crate) right: usize,
+    ghost few: { right ≤ 2 },
 }
 
-// What bytes hold before they are lent. Neighbours differ, so that a byte in the wrong place shows.
-pub(crate) fn fill_bytes(bytes: &mut [u8]) {
-    fill(bytes, |i| (i % 251) as u8);
+impl Score {
+    // Of answers, each of which is right or not.
+    pub(crate) fn of<const N: usize>(answers: [bool; N]) -> Score
+        requires { N ≤ 2 }
+    {
+        Score {
+            answers: N,
+            right: answers.iter().filter(|right| **right).count(),
+        }
+    }
+
+    pub(crate) fn is_full(self) -> bool {
+        self.right == self.answers
+    }
 }

@@ -124,7 +124,7 @@ impl<'a> Fields<'a> {
     }
 
     // A length, a place or the like, in base 10.
-    pub(crate) fn count(&mut self) -> Option<usize>
+    pub(crate) fn decimal(&mut self) -> Option<usize>
         ensures { Ahead result self.old.rest.now self.new.rest.now }
     {
         Some(self.number(10)? as usize)
@@ -135,7 +135,7 @@ impl<'a> Fields<'a> {
         ensures within { IfSome result (λ n. n ≤ most) }
         ensures left { IfSome result (λ _. length self.new.rest.now ≤ length self.old.rest.now) }
     {
-        let times = if self.skip(b'*') { self.count()? } else { 1 };
+        let times = if self.skip(b'*') { self.decimal()? } else { 1 };
         if most < times {
             return None;
         }
@@ -186,7 +186,7 @@ impl<'a> Fields<'a> {
         }
         let number = self.number(10)?;
         self.mark(b'@')?;
-        let place = self.count()?;
+        let place = self.decimal()?;
         // No refusal has number 0, and a case that tells it is one of success.
         if number == 0 {
             return Some(Ok(()));
@@ -195,11 +195,11 @@ impl<'a> Fields<'a> {
     }
 
     // An answer whose success is a length.
-    pub(crate) fn length(&mut self) -> Option<Due<usize>>
+    pub(crate) fn due_length(&mut self) -> Option<Due<usize>>
         ensures { Ahead result self.old.rest.now self.new.rest.now }
     {
         match self.answer()? {
-            Ok(()) => Some(Ok(self.count()?)),
+            Ok(()) => Some(Ok(self.decimal()?)),
             Err(refusal) => Some(Err(refusal)),
         }
     }

@@ -2,14 +2,16 @@
 // and how many answers were right. Its exit status says nothing: what it prints is held to the file `stdout`.
 #![tactic(auto)]
 
-ghost use Rattle.std.specs.Prelude.{◌+◌, ◌^◌, ◌<◌, ◌≤◌, length, IfSome};
+ghost use Rattle.std.specs.Prelude.{◌≤◌};
 
 mod call;
 mod due;
 mod form;
+mod lent;
 mod reading;
 mod writing;
 
+use due::Score;
 use std::fs;
 use std::fs::File;
 use std::os::unix::fs::FileExt;
@@ -35,39 +37,37 @@ fn line_at<'a>(file: &File, at: usize, buffer: &'a mut [u8]) -> Option<&'a [u8]>
 }
 
 // A failed write is not looked at: what the program prints is then not what it should be.
-fn print_line(rt: &impl Print, name: &str, line: &[u8]) {
+fn print_difference(rt: &impl Print, name: &str, line: &[u8]) {
     for part in [name.as_bytes(), b" differs: ", line, b"\n"] {
         let _ = rt.write_all(part);
     }
 }
 
-// Replays a case of N answers, and prints it where it differs. How many answers are right: none where the line is not as it should be.
-fn replay_case<const N: usize, F: Fn(&[u8]) -> Option<[bool; N]>>(
+// Replays a case, and prints it where it differs. How many of its answers are right: none where the line does not read.
+fn replay_case<F: Fn(&[u8]) -> Option<Score>>(
     rt: &impl Print,
     name: &str,
     line: &[u8],
     case: &F,
 ) -> usize
     requires { F.IsAlwaysCallable case.now }
-    ensures { result ≤ N }
+    ensures { result ≤ 2 }
 {
-    let answers = case(line).unwrap_or([false; N]);
-    let right = answers.iter().filter(|right| **right).count();
-    if right < N {
-        print_line(rt, name, line);
+    let score = case(line);
+    if !score.is_some_and(|score| score.is_full()) {
+        print_difference(rt, name, line);
     }
-    right
+    score.map_or(0, |score| score.right)
 }
 
 // Replays all lines of a file, one after another. A line that is empty or begins with `#` is no case.
-fn replay_lines<const N: usize, F: Fn(&[u8]) -> Option<[bool; N]>>(
+fn replay_lines<F: Fn(&[u8]) -> Option<Score>>(
     rt: &impl Print,
     name: &str,
     file: &File,
     case: &F,
 ) -> Tally
-    requires few { N ≤ 2 }
-    requires callable { F.IsAlwaysCallable case.now }
+    requires { F.IsAlwaysCallable case.now }
 {
     let mut at = 0;
     let mut all = Tally { cases: 0, right: 0 };
@@ -85,14 +85,13 @@ fn replay_lines<const N: usize, F: Fn(&[u8]) -> Option<[bool; N]>>(
     all
 }
 
-// Replays a file whose cases have N answers each, and prints its cases and how many answers were right.
-fn replay<
-    const N: usize,
-    F: Fn(&[u8]) -> Option<[bool; N]>,
-    R: Files<File = File> + Print + Eprint,
->(rt: &R, name: &str, case: F)
-    requires few { N ≤ 2 }
-    requires callable { F.IsAlwaysCallable case }
+// Replays a file, and prints its cases and how many answers were right.
+fn replay<F: Fn(&[u8]) -> Option<Score>, R: Files<File = File> + Print + Eprint>(
+    rt: &R,
+    name: &str,
+    case: F,
+)
+    requires { F.IsAlwaysCallable case }
 {
     let file = match fs::open(rt, name) {
         Ok(file) => file,

@@ -1,11 +1,11 @@
 // Cases of the reader: a level limit and bytes, and what is due of measuring, of reading and of the walker.
 use crate::call;
-use crate::due::{Due, Numbered, fill, fill_bytes, in_each_form, is_due};
+use crate::due::{Due, Numbered, Score, in_each_form, is_due};
 use crate::form::Fields;
+use crate::lent::{fill_bytes, fill_words};
 use reader::Extent;
 use standard::refusal::{Reason, Refusal};
 use std::ops::Range;
-
 // No case has more words.
 const WORDS: usize = 4096;
 
@@ -17,9 +17,8 @@ struct Lent<'a> {
 }
 
 impl Lent<'_> {
-    // Neighbours differ, so that a row in the wrong place shows.
     fn fill(&mut self) {
-        fill(self.words, |i| i as u64);
+        fill_words(self.words);
         fill_bytes(self.text);
     }
 
@@ -33,7 +32,7 @@ fn due_of_reading(fields: &mut Fields<'_>, want: &mut Lent<'_>) -> Option<Due<Ex
     if let Err(refusal) = fields.answer()? {
         return Some(Err(refusal));
     }
-    let length = fields.count()?;
+    let length = fields.decimal()?;
     fields.space()?;
     let rows = fields.words(want.words)?.len() / 2;
     fields.space()?;
@@ -71,25 +70,25 @@ fn read(
     bytes: &[u8],
     mut lent: Lent<'_>,
     mut want: Lent<'_>,
-) -> Option<[bool; 2]> {
+) -> Option<Score> {
     want.fill();
     let due = due_of_reading(fields, &mut want)?;
     fields.end()?;
-    Some([
+    Some(Score::of([
         in_each_form(limit, |named| goes_with(call::measure(named, bytes), due)),
         in_each_form(limit, |named| reads(named, bytes, &mut lent, &want, due)),
-    ])
+    ]))
 }
 
 // The same, where the rooms are at the front of the line.
-fn read_into_rooms(fields: &mut Fields<'_>, limit: usize, bytes: &[u8]) -> Option<[bool; 2]> {
+fn read_into_rooms(fields: &mut Fields<'_>, limit: usize, bytes: &[u8]) -> Option<Score> {
     let mut words = [0u64; WORDS];
     let mut want_words = [0u64; WORDS];
     let mut text = io::buffer();
     let mut want_text = io::buffer();
-    let room = fields.count()?;
+    let room = fields.decimal()?;
     fields.space()?;
-    let text_room = fields.count()?;
+    let text_room = fields.decimal()?;
     fields.space()?;
     let lent = Lent {
         words: words.get_mut(..room)?,
@@ -103,10 +102,10 @@ fn read_into_rooms(fields: &mut Fields<'_>, limit: usize, bytes: &[u8]) -> Optio
 }
 
 // `LIMIT BYTES ROOM ROOM ANSWER`, with `LENGTH WORDS TEXT` behind a success.
-pub(crate) fn read_case(line: &[u8]) -> Option<[bool; 2]> {
+pub(crate) fn read_case(line: &[u8]) -> Option<Score> {
     let mut input = io::buffer();
     let mut fields = Fields::of(line);
-    let limit = fields.count()?;
+    let limit = fields.decimal()?;
     fields.space()?;
     let bytes = fields.bytes(&mut input)?;
     fields.space()?;
@@ -128,40 +127,39 @@ fn place_behind(
 }
 
 // Whether the steps that are left of a line are the walker's from that start on.
-fn walks(named: Option<usize>, bytes: &[u8], start: usize, steps: Fields<'_>) -> Option<()> {
+fn walks(named: Option<usize>, bytes: &[u8], start: usize, mut steps: Fields<'_>) -> Option<()> {
     let mut at = start;
-    let mut steps = steps;
     while !steps.is_done() {
         steps.space()?;
-        let due = steps.length()?;
+        let due = steps.due_length()?;
         at = place_behind(at, call::step(named, bytes, at), due)?;
     }
     Some(())
 }
 
 // The walker from that start on, where bytes and steps are at the front of the line: all its steps are right, or none is.
-fn walked(mut fields: Fields<'_>, limit: usize, start: usize) -> Option<[bool; 1]> {
+fn walked(mut fields: Fields<'_>, limit: usize, start: usize) -> Option<Score> {
     let mut input = io::buffer();
     let bytes = fields.bytes(&mut input)?;
-    Some([in_each_form(limit, |named| {
+    Some(Score::of([in_each_form(limit, |named| {
         walks(named, bytes, start, fields).is_some()
-    })])
+    })]))
 }
 
 // `LIMIT BYTES ANSWER ANSWER ..`, with the length of the value behind a success: the steps from the front on.
-pub(crate) fn walk_case(line: &[u8]) -> Option<[bool; 1]> {
+pub(crate) fn walk_case(line: &[u8]) -> Option<Score> {
     let mut fields = Fields::of(line);
-    let limit = fields.count()?;
+    let limit = fields.decimal()?;
     fields.space()?;
     walked(fields, limit, 0)
 }
 
 // `LIMIT START BYTES ANSWER ANSWER ..`: the steps from START on.
-pub(crate) fn start_case(line: &[u8]) -> Option<[bool; 1]> {
+pub(crate) fn start_case(line: &[u8]) -> Option<Score> {
     let mut fields = Fields::of(line);
-    let limit = fields.count()?;
+    let limit = fields.decimal()?;
     fields.space()?;
-    let start = fields.count()?;
+    let start = fields.decimal()?;
     fields.space()?;
     walked(fields, limit, start)
 }

@@ -1,7 +1,8 @@
 // Cases of sizing and writing: a level limit and a table, and what is due of the writer.
 use crate::call;
-use crate::due::{Due, fill_bytes, in_each_form, is_due};
+use crate::due::{Due, Score, in_each_form, is_due};
 use crate::form::Fields;
+use crate::lent::fill_bytes;
 use standard::refusal::{Reason, Refusal};
 
 // No case has more words.
@@ -18,7 +19,7 @@ struct Table<'a> {
 impl<'a> Table<'a> {
     // The one at the front of a line, and the space behind it.
     fn of(fields: &mut Fields<'_>, words: &'a mut [u64], text: &'a mut [u8]) -> Option<Table<'a>> {
-        let limit = fields.count()?;
+        let limit = fields.decimal()?;
         fields.space()?;
         let words = fields.words(words)?;
         fields.space()?;
@@ -57,43 +58,43 @@ fn written(
     table: Table<'_>,
     out: &mut [u8],
     want: &mut [u8],
-) -> Option<[bool; 2]> {
+) -> Option<Score> {
     fill_bytes(want);
     let answer = fields.answer()?;
     // behind a refusal there are none
     let length = fields.bytes(want)?.len();
     let due = answer.map(|()| length);
     fields.end()?;
-    Some([
+    Some(Score::of([
         in_each_form(table.limit, |named| {
             goes_with(call::size(named, table.words, table.text), due, want.len())
         }),
         in_each_form(table.limit, |named| writes(named, table, out, want, due)),
-    ])
+    ]))
 }
 
 // `LIMIT WORDS TEXT ANSWER`, with the size behind a success.
-pub(crate) fn size_case(line: &[u8]) -> Option<[bool; 1]> {
+pub(crate) fn size_case(line: &[u8]) -> Option<Score> {
     let mut words = [0u64; WORDS];
     let mut text = io::buffer();
     let mut fields = Fields::of(line);
     let table = Table::of(&mut fields, &mut words, &mut text)?;
-    let due = fields.length()?;
+    let due = fields.due_length()?;
     fields.end()?;
-    Some([in_each_form(table.limit, |named| {
+    Some(Score::of([in_each_form(table.limit, |named| {
         is_due(call::size(named, table.words, table.text), due)
-    })])
+    })]))
 }
 
 // `LIMIT WORDS TEXT ROOM ANSWER`, with the bytes behind a success.
-pub(crate) fn write_case(line: &[u8]) -> Option<[bool; 2]> {
+pub(crate) fn write_case(line: &[u8]) -> Option<Score> {
     let mut words = [0u64; WORDS];
     let mut text = io::buffer();
     let mut out = io::buffer();
     let mut want = io::buffer();
     let mut fields = Fields::of(line);
     let table = Table::of(&mut fields, &mut words, &mut text)?;
-    let room = fields.count()?;
+    let room = fields.decimal()?;
     fields.space()?;
     written(
         &mut fields,
