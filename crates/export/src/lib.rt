@@ -13,31 +13,32 @@ ghost use Rattle.writer.specs.InCode.{written_is};
 ghost use Rattle.reader.specs.InCode.{measured_is, stepped_is};
 ghost use Rattle.export.specs.Boundary.{sizing, writing, measuring, reading, stepping};
 
-use reader::walker::{Step, Stepped};
-use reader::{Measured, walker};
-use writer::Written;
+use reader::{Extent, walker};
+use standard::refusal::Refusal;
+use std::ops::Range;
 
 // Stores a length or the place of a refusal, and says which it is: 0, or the number.
-fn tell_length(answer: Written, place: &mut u64, length: &mut u64) -> u64
+// C lends each number by a pointer of its own.
+fn tell_length(answer: Result<usize, Refusal>, place: &mut u64, length: &mut u64) -> u64
     ensures { sizing (written_is answer) ≡ record { code = result; place = place.new; length = length.new } }
 {
     match answer {
-        Written::Length(n) => {
+        Ok(n) => {
             *place = 0;
             *length = n as u64;
             0
         }
-        Written::Refused(r) => {
-            *place = r.place as u64;
+        Err(refusal) => {
+            *place = refusal.place as u64;
             *length = 0;
-            r.number as u64
+            refusal.reason.number()
         }
     }
 }
 
 // The same of what was measured.
 fn tell_extent(
-    answer: Measured,
+    answer: Result<Extent, Refusal>,
     place: &mut u64,
     length: &mut u64,
     rows: &mut u64,
@@ -47,37 +48,36 @@ fn tell_extent(
         ≡ record { code = result; place = place.new; length = length.new; rows = rows.new; text = text.new } }
 {
     match answer {
-        Measured::Fits(e) => {
-            *place = 0;
-            *length = e.length as u64;
-            *rows = e.rows as u64;
-            *text = e.text as u64;
-            0
+        Ok(extent) => {
+            *rows = extent.rows as u64;
+            *text = extent.text as u64;
+            tell_length(Ok(extent.length), place, length)
         }
-        Measured::Refused(f) => {
-            *place = f.place as u64;
-            *length = 0;
+        Err(refusal) => {
             *rows = 0;
             *text = 0;
-            f.number as u64
+            tell_length(Err(refusal), place, length)
         }
     }
 }
 
-// The same of a step of the walker: its length, and where the caller's place is now.
-fn tell_step(found: Stepped, at: &mut u64, place: &mut u64, length: &mut u64) -> u64
-    ensures { stepping (stepped_is found)
+// The same of a step of the walker: its length. Behind a value the caller's place is moved.
+fn tell_step(
+    found: Result<Option<Range<usize>>, Refusal>,
+    at: &mut u64,
+    place: &mut u64,
+    length: &mut u64,
+) -> u64
+    ensures { stepping (stepped_is at.old found)
         ≡ record { answer = record { code = result; place = place.new; length = length.new }; at = at.new } }
 {
-    *at = found.at as u64;
-    let answer = found.answer;
-    match answer {
-        Step::Done => tell_length(Written::Length(0), place, length),
-        Step::Value {
-            start: _,
-            length: n,
-        } => tell_length(Written::Length(n), place, length),
-        Step::Refused(f) => tell_length(Written::Refused(f), place, length),
+    match found {
+        Ok(None) => tell_length(Ok(0), place, length),
+        Ok(Some(part)) => {
+            *at = part.end as u64;
+            tell_length(Ok(part.len()), place, length)
+        }
+        Err(refusal) => tell_length(Err(refusal), place, length),
     }
 }
 
