@@ -1,24 +1,21 @@
 -- Filling, turn by turn: what is left from a place on comes to what was due at the start.
-use Prim.Native.Nat.{ℕ, zero, suc, ◌+◌, ◌*◌, ◌-◌, ◌≤◌, ◌<◌}
-use mathlib.Core.Path.{◌≡◌, refl, sym, ap, ◌∙◌}
-use mathlib.Core.List.{List, [], ◌∷◌, ◌++◌}
-use mathlib.Core.Bool.{Bool, true, false}
-use native.Mathlib.Omega.{arith}
-use borrow.Author.Tests.{ltb-true}
-use lib.Dec.{ltb}
-use lib.ListN.{length, take, drop, set, length-append, length-drop, length-set}
-use lib.Seq.{sets, length-sets, length-take-le}
+use Rattle.std.specs.Prelude.{ℕ, zero, suc, ◌+◌, ◌*◌, ◌-◌, ◌≤◌, ◌<◌, ◌≡◌, refl, List, [], ◌∷◌, ◌++◌, Bool, true, false, ltb, length, take, drop, set}
+use Rattle.std.proofs.Common.{sym, ap, ◌∙◌, arith, ltb-true, length-append, length-drop, length-set, length-take-le, drop-drop, append_assoc}
+use borrow.Rule.Slice.PartMut.{put_mid}
+use lib.Seq.{sets, length-sets, sets-eq}
 use Rattle.standard.specs.Answer.{Answer, got, refuse, Place, at, ◌>>=◌, need}
 use Rattle.standard.specs.Tree.{rows, text}
 use Rattle.standard.specs.Read.{front}
 use Rattle.standard.specs.Outcomes.{level_most, over}
+use Rattle.standard.specs.InCode.{kind_is}
 use Rattle.laws.specs.Bounds.{rows_length}
 use Rattle.laws.specs.Stores.{put_on, front_over}
-use Rattle.laws.specs.Flat.{Head, Run, run, push, Step, step_of, flat}
+use Rattle.laws.specs.Flat.{Head, own, Run, run, push, Step, step_of, flat}
 use Rattle.laws.specs.Flow.{read_flow}
-use Rattle.reader.specs.Filling.{Lands, head_is, kept_is, due_is, Kept, Topped, step_is, RowFound, Fillable, rows_in, text_in}
+use Rattle.reader.specs.Runs.{head_is, kept_is}
+use Rattle.reader.specs.Filling.{Lands, due_is, step_is, RowFound, Fillable, rows_in, text_in}
 use Rattle.reader.specs.declared.filling.Row.{Row}
-use Rattle.reader.specs.declared.filling.Due.{Due}
+use Rattle.reader.specs.declared.due.Due.{Due}
 use Rattle.reader.proofs.Runs.{push_one}
 
 -- The flat reading, where it does not get stuck
@@ -74,13 +71,12 @@ turn l (suc n) k h t b rs ts i e =
     }
 
 -- At row k of n: at place i of the bytes and place j of the text. W and X are what words and text are to hold in the end
-pub record Going (bytes : List ℕ) (n : ℕ) (W X words letters ls cs : List ℕ) (d : Due) (i j k : ℕ) : Type 0 where
-  pub keeps : Kept ls cs d.kept
+pub record Going (bytes : List ℕ) (n : ℕ) (W X words letters : List ℕ) (d : Due) (i j k : ℕ) : Type 0 where
   pub here : i ≤ length bytes
   pub row_room : 2 * n ≤ length words
   pub due_rows : List ℕ
   pub due_text : List ℕ
-  pub due : flat level_most (n - k) (due_is ls cs d) (drop i bytes) ≡ got (due_rows, due_text)
+  pub due : flat level_most (n - k) (due_is d) (drop i bytes) ≡ got (due_rows, due_text)
   pub is_rows : sets words (2 * k) due_rows ≡ W
   pub is_text : sets letters j due_text ≡ X
   pub text_room : j + length due_text ≤ length letters
@@ -91,50 +87,57 @@ rows_step l k a b rs =
     let f : 2 * (k + 1) ≡ suc (suc (2 * k)) = omega arith in
     rw (e, f)
 
-pub begin : (bytes words letters : List ℕ) (n : ℕ) (ls cs : List ℕ) → length ls ≡ level_most → length cs ≡ level_most → Fillable bytes words letters n →
-    Going bytes n (over (rows_in (front level_most bytes)) words) (over (text_in (front level_most bytes)) letters) words letters ls cs (record { left = 1; code = 256; kept = 0 }) 0 0 0
-unfolding kept_is push
-begin bytes words letters n ls cs a b f =
+-- what is copied into a part is stored from its front on
+pub copied : (l b ys : List ℕ) (j i n : ℕ) → j + n ≤ length l → i + n ≤ length b → ys ≡ take (i + n - i) (drop i b) → put_mid j (j + n - j) l ys ≡ sets l j (take n (drop i b))
+copied l b ys j i n g h q =
+    let e : i + n - i ≡ n = omega arith in
+    let f : j + n - j ≡ n = omega arith in
+    let k : length (take n (drop i b)) ≡ n = length-take-le n (drop i b) (omega (arith, length-drop i b)) in
+    rw (q, e, f, sets-eq (take n (drop i b)) l j (omega (arith, k)), k, drop-drop n j l) (sym (append_assoc (take j l) (take n (drop i b)) (drop (j + n) l)))
+
+pub begin : (bytes words letters : List ℕ) (n : ℕ) (d : Due) → due_is d ≡ push 1 own [] → Fillable bytes words letters n →
+    Going bytes n (over (rows_in (front level_most bytes)) words) (over (text_in (front level_most bytes)) letters) words letters d 0 0 0
+unfolding push
+begin bytes words letters n d e f =
     let v = f.tree in
     let z : n - 0 ≡ n = omega arith in
     record {
-      keeps = record { full = refl; few = omega arith; left_room = a; code_room = b };
       here = omega arith;
       row_room = f.row_room;
       due_rows = rows v;
       due_text = text v;
-      due = rw (z, ← f.height) (read_flow level_most bytes v f.rest f.is_front);
+      due = rw (e, z, ← f.height) (read_flow level_most bytes v f.rest f.is_front);
       is_rows = rw f.is_front (front_over words (rows v) (omega (arith, rows_length v, f.height, f.row_room)));
       is_text = rw f.is_front (front_over letters (text v) f.text_room);
       text_room = omega (arith, f.text_room);
     }
 
-pub end : {bytes : List ℕ} {n : ℕ} {W X words letters ls cs : List ℕ} {d : Due} {i j k : ℕ} → Going bytes n W X words letters ls cs d i j k → n ≤ k → (words ≡ W) × (letters ≡ X)
+pub end : {bytes : List ℕ} {n : ℕ} {W X words letters : List ℕ} {d : Due} {i j k : ℕ} → Going bytes n W X words letters d i j k → n ≤ k → (words ≡ W) × (letters ≡ X)
 unfolding flat
 end {n = n} {words = words} {letters = letters} {j = j} {k = k} g h =
     let z : n - k ≡ 0 = omega arith in
     let q = both [] [] g.due_rows g.due_text (rw (z, flat) at g.due) in
     (ap (sets words (2 * k)) q.0 ∙ g.is_rows, ap (sets letters j) q.1 ∙ g.is_text)
 
-module _ {bytes : List ℕ} {n : ℕ} {W X words letters ls cs : List ℕ} {d : Due} {i j k : ℕ} (g : Going bytes n W X words letters ls cs d i j k) (h : k < n) where
-  pub some_due : 1 ≤ length (due_is ls cs d)
-  some_due = flat_some level_most (n - k) (due_is ls cs d) (drop i bytes) (g.due_rows, g.due_text) (omega arith) g.due
+module _ {bytes : List ℕ} {n : ℕ} {W X words letters : List ℕ} {d : Due} {i j k : ℕ} (g : Going bytes n W X words letters d i j k) (h : k < n) where
+  pub some_due : 1 ≤ length (due_is d)
+  some_due = flat_some level_most (n - k) (due_is d) (drop i bytes) (g.due_rows, g.due_text) (omega arith) g.due
 
   -- with a value in the run on top
-  module _ {e : Due} (t : Topped ls cs d e) where
-    turned : Turn level_most (n - k) (e.left - 1) (head_is e.code) (kept_is ls cs e.kept) (drop i bytes) g.due_rows g.due_text
+  module _ (e : Due) (t : (1 ≤ e.top.left) × (due_is e ≡ due_is d)) where
+    turned : Turn level_most (n - k) (e.top.left - 1) (head_is e.top.code) (kept_is e.below e.kept) (drop i bytes) g.due_rows g.due_text
     turned =
-        let q = sym (push_one e.left (head_is e.code) (kept_is ls cs e.kept) t.some) ∙ t.same in
-        turn level_most (n - k) (e.left - 1) (head_is e.code) (kept_is ls cs e.kept) (drop i bytes) g.due_rows g.due_text (omega arith) (ap (λ x. flat level_most (n - k) x (drop i bytes)) q ∙ g.due)
+        let q = sym (push_one e.top.left (head_is e.top.code) (kept_is e.below e.kept) t.0) ∙ t.1 in
+        turn level_most (n - k) (e.top.left - 1) (head_is e.top.code) (kept_is e.below e.kept) (drop i bytes) g.due_rows g.due_text (omega arith) (ap (λ x. flat level_most (n - k) x (drop i bytes)) q ∙ g.due)
 
-    pub row_lands : Lands (step_of (head_is e.code) (drop i bytes))
+    pub row_lands : Lands (step_of (head_is e.top.code) (drop i bytes))
     row_lands = rw turned.is tt
 
     pub few_kept : e.kept < level_most
-    few_kept = omega (arith, turned.few, t.keeps.full)
+    few_kept = omega (arith, turned.few, e.full)
 
     -- with the row
-    module _ {r : Row} (s : RowFound bytes (step_of (head_is e.code) (drop i bytes)) r) where
+    module _ {r : Row} (s : RowFound bytes (step_of (head_is e.top.code) (drop i bytes)) r) where
       is_step : got turned.step ≡ step_is bytes r
       is_step = sym turned.is ∙ s.step
 
@@ -157,25 +160,24 @@ module _ {bytes : List ℕ} {n : ℕ} {W X words letters ls cs : List ℕ} {d : 
       pub text_fits_lem : j + r.text ≤ length letters
       text_fits_lem = omega (arith, all_fits)
 
-      rows_due : g.due_rows ≡ r.kind ∷ r.number ∷ turned.more_rows
+      rows_due : g.due_rows ≡ kind_is r.kind ∷ r.number ∷ turned.more_rows
       rows_due = turned.is_rows ∙ cc is_step
 
-      rest_due : flat level_most (n - k - 1) (push r.children (head_is r.code) (push (e.left - 1) (head_is e.code) (kept_is ls cs e.kept))) (drop (r.from + r.text) bytes) ≡ got (turned.more_rows, turned.more_text)
+      rest_due : flat level_most (n - k - 1) (push r.children.left (head_is r.children.code) (push (e.top.left - 1) (head_is e.top.code) (kept_is e.below e.kept))) (drop (r.from + r.text) bytes) ≡ got (turned.more_rows, turned.more_text)
       rest_due = cc (is_step, turned.due)
 
-      pub again : {ls₁ cs₁ letters₁ : List ℕ} {d₁ : Due} → letters₁ ≡ sets letters j part → Kept ls₁ cs₁ d₁.kept →
-          due_is ls₁ cs₁ d₁ ≡ push r.children (head_is r.code) (push (e.left - 1) (head_is e.code) (kept_is ls cs e.kept)) →
-          Going bytes n W X (set (set words (2 * k) r.kind) (2 * k + 1) r.number) letters₁ ls₁ cs₁ d₁ (r.from + r.text) (j + r.text) (k + 1)
-      again {letters₁ = letters₁} p q z =
+      pub again : {letters₁ : List ℕ} {d₁ : Due} → letters₁ ≡ sets letters j part →
+          due_is d₁ ≡ push r.children.left (head_is r.children.code) (push (e.top.left - 1) (head_is e.top.code) (kept_is e.below e.kept)) →
+          Going bytes n W X (set (set words (2 * k) (kind_is r.kind)) (2 * k + 1) r.number) letters₁ d₁ (r.from + r.text) (j + r.text) (k + 1)
+      again {letters₁ = letters₁} p z =
           let m : n - (k + 1) ≡ n - k - 1 = omega arith in
           record {
-            keeps = q;
             here = s.inside;
             row_room = rw (length-set, length-set) g.row_room;
             due_rows = turned.more_rows;
             due_text = turned.more_text;
             due = rw (m, z) rest_due;
-            is_rows = rows_step words k r.kind r.number turned.more_rows ∙ ap (sets words (2 * k)) (sym rows_due) ∙ g.is_rows;
+            is_rows = rows_step words k (kind_is r.kind) r.number turned.more_rows ∙ ap (sets words (2 * k)) (sym rows_due) ∙ g.is_rows;
             is_text = put_on letters letters₁ _ j (j + r.text) part turned.more_text p refl (rw part_length) ∙ ap (sets letters j) (sym text_due) ∙ g.is_text;
             text_room = omega (arith, all_fits, ap length p, length-sets letters j part);
           }

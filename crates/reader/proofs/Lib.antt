@@ -1,4 +1,5 @@
 pub mod Entries
+pub mod Numbers
 pub mod Rooms
 pub mod Scalars
 pub mod Plain

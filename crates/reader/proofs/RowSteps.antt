@@ -1,14 +1,6 @@
 -- The steps of the flat reading, as the code takes them: what a step that lands asks of the bytes, and the row that it gives.
-use Prim.Native.Nat.{ℕ, zero, suc, ◌+◌, ◌-◌, ◌≤◌, ◌<◌}
-use mathlib.Core.Path.{◌≡◌, refl, sym, ap, ◌∙◌}
-use mathlib.Core.List.{List, [], ◌∷◌, ◌++◌}
-use mathlib.Core.Bool.{Bool, true, false}
-use native.Mathlib.Nat.{add-zero}
-use native.Mathlib.Omega.{arith}
-use borrow.Author.Tests.{lt-ltb, le-ltb, le-leb}
-use lib.Dec.{T, leb, leb→le}
-use lib.ListN.{length, take, drop, get_or, length-drop, take-append-drop}
-use lib.Seq.{drop-cons, drop-drop, get_or-take, get_or-drop, length-take-le}
+use Rattle.std.specs.Prelude.{ℕ, zero, suc, ◌+◌, ◌-◌, ◌≤◌, ◌<◌, ◌≡◌, refl, List, [], ◌∷◌, ◌++◌, Bool, true, false, Option, Some, None, T, leb, length, take, drop, get_or}
+use Rattle.std.proofs.Common.{sym, ap, ◌∙◌, arith, add-zero, leb→le, le-leb, length-drop, take-append-drop, drop-cons, drop-drop, get_or-take, get_or-drop, length-take-le}
 use Rattle.standard.specs.Answer.{Answer, got, refuse, Place, at, ◌>>=◌, need, input_short, size_amiss}
 use Rattle.standard.specs.Bytes.{unbe}
 use Rattle.standard.specs.Codes.{Scalar, constant, whole, small, raw, sized, Layout, unknown, described, scalar, compound, array, entry_of, layout_of, kind_of, element}
@@ -16,15 +8,17 @@ use Rattle.standard.specs.Kinds.{named}
 use Rattle.standard.specs.Grammar.{extend}
 use Rattle.standard.specs.Read.{cut, plain, fields}
 use Rattle.standard.specs.Facts.{T_true}
-use Rattle.standard.specs.InCode.{layout_is, entry_is}
-use Rattle.laws.specs.Numbers.{spelled}
-use Rattle.laws.specs.Flat.{own, under, row, opened, behind_step, step_of}
+use Rattle.standard.specs.InCode.{kind_is, layout_is, entry_is}
+use Rattle.standard.specs.declared.kind.Kind.{Kind}
 use Rattle.standard.specs.declared.format_code.Entry.{Entry}
 use Rattle.standard.specs.declared.format_code.Layout as in_code
+use Rattle.laws.specs.Numbers.{spelled}
+use Rattle.laws.specs.Flat.{own, under, row, opened, behind_step, step_of}
 use Rattle.reader.specs.Entries.{sure}
-use Rattle.reader.specs.Filling.{Lands, head_is, leaf_row, parent_row, array_row, RowFound, CodeFound}
+use Rattle.reader.specs.Runs.{head_is}
+use Rattle.reader.specs.Filling.{Lands, leaf_row, parent_row, array_row, RowFound}
 use Rattle.reader.specs.declared.filling.Row.{Row}
-use Rattle.reader.proofs.Entries.{entry_layout, entry_sure}
+use Rattle.reader.proofs.Entries.{entry_layout, entry_none, entry_sure}
 use Rattle.reader.proofs.Rooms.{cut_got, fields_got}
 
 -- Cutting
@@ -71,10 +65,6 @@ fields_land b i w g h =
 part_rest : (a n : ℕ) (l : List ℕ) → take n (drop a l) ++ drop (a + n) l ≡ drop a l
 part_rest a n l = ap (λ (y : List ℕ). take n (drop a l) ++ y) (sym (drop-drop n a l)) ∙ take-append-drop n (drop a l)
 
-pub unknown_stuck : (k : ℕ) (r : List ℕ) → Lands (behind_step k r unknown) → ⊥
-unfolding behind_step
-unknown_stuck k r h = h
-
 -- how many bytes a scalar reads before it knows its text
 abbrev pub first : Scalar → ℕ
 first (constant n) = 0
@@ -85,20 +75,20 @@ first (sized w) = w
 
 -- Rows, behind a code at place i
 
-module _ (b : List ℕ) (k i : ℕ) (g : i ≤ length b) where
+module _ (b : List ℕ) (k : Kind) (i : ℕ) (g : i ≤ length b) where
   -- a scalar's number, d bytes before its text, and t bytes of text
-  leaf_row_lem : (s : Scalar) (n d t f : ℕ) → plain s 0 (drop i b) ≡ got (n, take t (drop d (drop i b)), drop t (drop d (drop i b))) → d + t ≤ length (drop i b) → f ≡ i + d → RowFound b (behind_step k (drop i b) (scalar s)) (leaf_row k n f t)
+  leaf_row_lem : (s : Scalar) (n d t f : ℕ) → plain s 0 (drop i b) ≡ got (n, take t (drop d (drop i b)), drop t (drop d (drop i b))) → d + t ≤ length (drop i b) → f ≡ i + d → RowFound b (behind_step (kind_is k) (drop i b) (scalar s)) (leaf_row k n f t)
   unfolding behind_step
   leaf_row_lem s n d t f e h z = record { step = rw (e, z, drop-drop d i b, drop-drop t (i + d) b); inside = omega (arith, length-drop i b) }
 
-  pub constant_row : (n : ℕ) → RowFound b (behind_step k (drop i b) (scalar (constant n))) (leaf_row k n i 0)
+  pub constant_row : (n : ℕ) → RowFound b (behind_step (kind_is k) (drop i b) (scalar (constant n))) (leaf_row k n i 0)
   unfolding plain
   constant_row n = leaf_row_lem (constant n) n 0 0 i refl (omega arith) (omega arith)
 
   cut_behind : (w : ℕ) → Lands (cut 0 w (drop i b)) → i + w ≤ length b
   cut_behind w h = omega (arith, cut_fits w (drop i b) h, length-drop i b)
 
-  pub first_fits : (s : Scalar) → Lands (behind_step k (drop i b) (scalar s)) → i + first s ≤ length b
+  pub first_fits : (s : Scalar) → Lands (behind_step (kind_is k) (drop i b) (scalar s)) → i + first s ≤ length b
   unfolding behind_step plain
   first_fits (constant n) h = omega arith
   first_fits (whole w) h = cut_behind w (lands_first (cut 0 w (drop i b)) _ (lands_first (plain (whole w) 0 (drop i b)) _ h))
@@ -106,25 +96,25 @@ module _ (b : List ℕ) (k i : ℕ) (g : i ≤ length b) where
   first_fits (raw w) h = cut_behind w (lands_first (cut 0 w (drop i b)) _ (lands_first (plain (raw w) 0 (drop i b)) _ h))
   first_fits (sized w) h = cut_behind w (lands_first (cut 0 w (drop i b)) _ (lands_first (plain (sized w) 0 (drop i b)) _ h))
 
-  pub whole_row : (w n : ℕ) → i + w ≤ length b → n ≡ unbe (take w (drop i b)) → RowFound b (behind_step k (drop i b) (scalar (whole w))) (leaf_row k n (i + w) 0)
+  pub whole_row : (w n : ℕ) → i + w ≤ length b → n ≡ unbe (take w (drop i b)) → RowFound b (behind_step (kind_is k) (drop i b) (scalar (whole w))) (leaf_row k n (i + w) 0)
   unfolding plain
   whole_row w n h e =
       let f : w ≤ length (drop i b) = omega (arith, length-drop i b) in
       leaf_row_lem (whole w) n w 0 (i + w) (rw (cut_got 0 w (drop i b) f, e)) (omega arith) refl
 
-  pub small_row : (w n : ℕ) → i + 1 ≤ length b → n ≡ extend w (get_or b i 0) → RowFound b (behind_step k (drop i b) (scalar (small w))) (leaf_row k n (i + 1) 0)
+  pub small_row : (w n : ℕ) → i + 1 ≤ length b → n ≡ extend w (get_or b i 0) → RowFound b (behind_step (kind_is k) (drop i b) (scalar (small w))) (leaf_row k n (i + 1) 0)
   unfolding plain
   small_row w n h e =
       let f : 1 ≤ length (drop i b) = omega (arith, length-drop i b) in
       leaf_row_lem (small w) n 1 0 (i + 1) (rw (cut_got 0 1 (drop i b) f, ← spelled b i 0 h, e)) (omega arith) refl
 
-  pub raw_row : (w : ℕ) → Lands (behind_step k (drop i b) (scalar (raw w))) → RowFound b (behind_step k (drop i b) (scalar (raw w))) (leaf_row k 0 i w)
+  pub raw_row : (w : ℕ) → Lands (behind_step (kind_is k) (drop i b) (scalar (raw w))) → RowFound b (behind_step (kind_is k) (drop i b) (scalar (raw w))) (leaf_row k 0 i w)
   unfolding plain
   raw_row w h =
       let f : w ≤ length (drop i b) = omega (arith, first_fits (raw w) h, length-drop i b) in
       leaf_row_lem (raw w) 0 0 w i (rw (cut_got 0 w (drop i b) f)) (omega arith) (omega arith)
 
-  pub sized_row : (w n : ℕ) → Lands (behind_step k (drop i b) (scalar (sized w))) → n ≡ unbe (take w (drop i b)) → RowFound b (behind_step k (drop i b) (scalar (sized w))) (leaf_row k n (i + w) n)
+  pub sized_row : (w n : ℕ) → Lands (behind_step (kind_is k) (drop i b) (scalar (sized w))) → n ≡ unbe (take w (drop i b)) → RowFound b (behind_step (kind_is k) (drop i b) (scalar (sized w))) (leaf_row k n (i + w) n)
   unfolding behind_step plain
   sized_row w n h e =
       let f : w ≤ length (drop i b) = omega (arith, first_fits (sized w) h, length-drop i b) in
@@ -132,35 +122,35 @@ module _ (b : List ℕ) (k i : ℕ) (g : i ≤ length b) where
       let j : n ≤ length (drop w (drop i b)) = cut_fits n (drop w (drop i b)) (lands_first (cut 0 n (drop w (drop i b))) _ l) in
       leaf_row_lem (sized w) n w n (i + w) (rw (cut_got 0 w (drop i b) f, ← e, cut_got 0 n (drop w (drop i b)) j)) (omega (arith, length-drop w (drop i b))) refl
 
-  pub described_row : RowFound b (behind_step k (drop i b) described) (parent_row k 2 i)
+  pub described_row : RowFound b (behind_step (kind_is k) (drop i b) described) (parent_row k 2 i)
   unfolding behind_step
   described_row = record { step = rw add-zero; inside = omega arith }
 
-  compound_lands : (w : ℕ) → Lands (behind_step k (drop i b) (compound w)) → Fielded b i w
+  compound_lands : (w : ℕ) → Lands (behind_step (kind_is k) (drop i b) (compound w)) → Fielded b i w
   unfolding behind_step
   compound_lands w h = fields_land b i w g (lands_first (fields 0 w (drop i b)) _ h)
 
-  pub compound_fits : (w : ℕ) → Lands (behind_step k (drop i b) (compound w)) → i + w + w ≤ length b
+  pub compound_fits : (w : ℕ) → Lands (behind_step (kind_is k) (drop i b) (compound w)) → i + w + w ≤ length b
   compound_fits w h = omega (arith, (compound_lands w h).fits)
 
-  pub compound_row : (w n : ℕ) → Lands (behind_step k (drop i b) (compound w)) → n ≡ unbe (take w (drop (i + w) b)) → RowFound b (behind_step k (drop i b) (compound w)) (parent_row k n (i + w + w))
+  pub compound_row : (w n : ℕ) → Lands (behind_step (kind_is k) (drop i b) (compound w)) → n ≡ unbe (take w (drop (i + w) b)) → RowFound b (behind_step (kind_is k) (drop i b) (compound w)) (parent_row k n (i + w + w))
   unfolding behind_step
   compound_row w n h e = let s = compound_lands w h in record { step = rw (s.is, part_rest (i + w + w) s.long b, add-zero, e); inside = omega arith }
 
-  array_lands : (w : ℕ) → Lands (behind_step k (drop i b) (array w)) → Fielded b i w
+  array_lands : (w : ℕ) → Lands (behind_step (kind_is k) (drop i b) (array w)) → Fielded b i w
   unfolding behind_step
   array_lands w h = fields_land b i w g (lands_first (fields 0 w (drop i b)) _ h)
 
-  pub array_fits : (w : ℕ) → Lands (behind_step k (drop i b) (array w)) → i + w + w ≤ length b
+  pub array_fits : (w : ℕ) → Lands (behind_step (kind_is k) (drop i b) (array w)) → i + w + w ≤ length b
   array_fits w h = omega (arith, (array_lands w h).fits)
 
   -- an array whose size is that of its count field alone has no elements, and does not tell their kind
-  none_step : (n : ℕ) (r : List ℕ) → Lands (opened k n [] r) → opened k n [] r ≡ row k 0 [] 0 own r
+  none_step : (n : ℕ) (r : List ℕ) → Lands (opened (kind_is k) n [] r) → opened (kind_is k) n [] r ≡ row (kind_is k) 0 [] 0 own r
   unfolding opened named
   none_step zero r h = refl
   none_step (suc n) r h = absurd h
 
-  pub empty_row : (w : ℕ) → Lands (behind_step k (drop i b) (array w)) → unbe (take w (drop i b)) ≡ w → RowFound b (behind_step k (drop i b) (array w)) (leaf_row k 0 (i + w + w) 0)
+  pub empty_row : (w : ℕ) → Lands (behind_step (kind_is k) (drop i b) (array w)) → unbe (take w (drop i b)) ≡ w → RowFound b (behind_step (kind_is k) (drop i b) (array w)) (leaf_row k 0 (i + w + w) 0)
   unfolding behind_step
   empty_row w h e =
       let s = array_lands w h in
@@ -170,18 +160,18 @@ module _ (b : List ℕ) (k i : ℕ) (g : i ≤ length b) where
       record { step = rw (f, none_step n (drop (i + w + w) b) (rw f at h), add-zero); inside = omega (arith, s.fits) }
 
   -- an element code is there
-  items_code : (n d : ℕ) (l r : List ℕ) → 1 ≤ length l → d ≡ get_or l 0 0 → Lands (opened k n l r) → T (element (layout_of d))
+  items_code : (n d : ℕ) (l r : List ℕ) → 1 ≤ length l → d ≡ get_or l 0 0 → Lands (opened (kind_is k) n l r) → T (element (layout_of d))
   unfolding opened
   items_code n d [] r y z h = absurd (omega arith)
   items_code n d (e ∷ l) r y z h = rw z (need_lands (element (layout_of e)) 0 (at 0) _ h)
 
-  items_step : (n d : ℕ) (l r : List ℕ) → 1 ≤ length l → d ≡ get_or l 0 0 → T (element (layout_of d)) → opened k n l r ≡ row k (named n (kind_of d)) [] n (under d) (drop 1 (l ++ r))
+  items_step : (n d : ℕ) (l r : List ℕ) → 1 ≤ length l → d ≡ get_or l 0 0 → T (element (layout_of d)) → opened (kind_is k) n l r ≡ row (kind_is k) (named n (kind_of d)) [] n (under d) (drop 1 (l ++ r))
   unfolding opened
   items_step n d [] r y z t = absurd (omega arith)
   items_step n d (e ∷ l) r y z t = rw (← z, T_true (element (layout_of d)) t)
 
   -- an array of another size
-  module _ (w n : ℕ) (h : Lands (behind_step k (drop i b) (array w))) (e : n ≡ unbe (take w (drop (i + w) b))) (m : unbe (take w (drop i b)) ≡ w → ⊥) where
+  module _ (w n : ℕ) (h : Lands (behind_step (kind_is k) (drop i b) (array w))) (e : n ≡ unbe (take w (drop (i + w) b))) (m : unbe (take w (drop i b)) ≡ w → ⊥) where
     abbrev long : ℕ
     long = (array_lands w h).long
 
@@ -208,9 +198,9 @@ module _ (b : List ℕ) (k i : ℕ) (g : i ≤ length b) where
     unfolding behind_step
     items_element d z = items_code n d body (drop (i + w + w + long) b) body_some (z ∙ sym first_byte) (rw ((array_lands w h).is, ← e) at h)
 
-    pub items_row : (d : ℕ) → d ≡ get_or b (i + w + w) 0 → d < 256 → RowFound b (behind_step k (drop i b) (array w)) (array_row k n (i + w + w + 1) d)
+    pub items_row : (d : ℕ) → d ≡ get_or b (i + w + w) 0 → RowFound b (behind_step (kind_is k) (drop i b) (array w)) (array_row k n (i + w + w + 1) d)
     unfolding behind_step
-    items_row d z y =
+    items_row d z =
         record {
           step =
               rw (
@@ -220,37 +210,37 @@ module _ (b : List ℕ) (k i : ℕ) (g : i ≤ length b) where
                 part_rest (i + w + w) long b,
                 drop-drop 1 (i + w + w) b,
                 add-zero,
-                lt-ltb d 256 y,
               );
           inside = omega (arith, items_fit);
         }
 
 -- What the entry of a code says of the step behind it
-pub record Entered (b : List ℕ) (i c k : ℕ) (y : Layout) : Type 0 where
-  pub lands : Lands (behind_step k (drop i b) y)
-  pub fit : T (sure k y)
-  pub back : (r : Row) → RowFound b (behind_step k (drop i b) y) r → RowFound b (behind_step (kind_of c) (drop i b) (layout_of c)) r
+pub record Entered (b : List ℕ) (i c : ℕ) (k : Kind) (y : Layout) : Type 0 where
+  pub lands : Lands (behind_step (kind_is k) (drop i b) y)
+  pub fit : T (sure (kind_is k) y)
+  pub back : (r : Row) → RowFound b (behind_step (kind_is k) (drop i b) y) r → RowFound b (behind_step (kind_of c) (drop i b) (layout_of c)) r
 
-pub entered : (b : List ℕ) (i c : ℕ) (e : Entry) → entry_is c e ≡ entry_of c → Lands (behind_step (kind_of c) (drop i b) (layout_of c)) → (y : in_code.Layout) → e.1 ≡ y → Entered b i c e.0 (layout_is y)
+pub entered : (b : List ℕ) (i c : ℕ) (e : Entry) → entry_is c (Some e) ≡ entry_of c → Lands (behind_step (kind_of c) (drop i b) (layout_of c)) → (y : in_code.Layout) → e.layout ≡ y → Entered b i c e.kind (layout_is y)
 entered b i c e q h y z =
-    let k : kind_of c ≡ e.0 = sym (ap (λ x. x.kind) q) in
+    let k : kind_of c ≡ kind_is e.kind = sym (ap (λ x. x.kind) q) in
     let l : layout_of c ≡ layout_is y = entry_layout c e y q z in
     record { lands = rw (k, l) at h; fit = entry_sure c e y q z; back = λ r s. rw (k, l) s }
 
--- The code before a step
+-- no value begins with a code that has none
+pub entry_there : (b : List ℕ) (i c : ℕ) → entry_is c None ≡ entry_of c → Lands (behind_step (kind_of c) (drop i b) (layout_of c)) → ⊥
+unfolding behind_step
+entry_there b i c q h = rw (entry_none c q) at h
 
-pub stands_behind : (b : List ℕ) (i c : ℕ) → c < 256 → i ≤ length b → CodeFound b (step_of (head_is c) (drop i b)) (record { 0 = c; 1 = i })
-unfolding step_of
-stands_behind b i c h g = record { step = rw (lt-ltb c 256 h); inside = g }
+-- The code that a value begins with
 
-pub code_fits : (b : List ℕ) (i c : ℕ) → 256 ≤ c → Lands (step_of (head_is c) (drop i b)) → i < length b
+pub code_fits : (b : List ℕ) (i : ℕ) (c : Option ℕ) → c ≡ None → Lands (step_of (head_is c) (drop i b)) → i < length b
 unfolding step_of
-code_fits b i c h l = go (drop i b) refl (rw (le-ltb c 256 h) at l)
+code_fits b i c e l = go (drop i b) refl (rw e at l)
   where
     go : (r : List ℕ) → drop i b ≡ r → Lands (step_of own r) → i < length b
     go [] e l = absurd l
     go (x ∷ r) e l = omega (arith, length-drop i b, ap length e)
 
-pub begins_with : (b : List ℕ) (i c : ℕ) → 256 ≤ c → i < length b → CodeFound b (step_of (head_is c) (drop i b)) (record { 0 = get_or b i 0; 1 = i + 1 })
+pub begins_with : (b : List ℕ) (i : ℕ) → i < length b → step_of own (drop i b) ≡ behind_step (kind_of (get_or b i 0)) (drop (i + 1) b) (layout_of (get_or b i 0))
 unfolding step_of
-begins_with b i c h g = let e : i + 1 ≡ suc i = omega arith in record { step = rw (le-ltb c 256 h, drop-cons b i 0 g, e); inside = omega arith }
+begins_with b i g = let e : i + 1 ≡ suc i = omega arith in rw (drop-cons b i 0 g, e)

@@ -1,20 +1,15 @@
--- The runs that are due, as the code keeps them: the last in variables, the others in two arrays.
-use Prim.Native.Nat.{ℕ, zero, suc, ◌+◌, ◌-◌, ◌≤◌, ◌<◌}
-use mathlib.Core.Path.{◌≡◌, refl, sym, ap, ◌∙◌}
-use mathlib.Core.List.{List, ◌∷◌}
-use native.Mathlib.Omega.{arith}
-use lib.ListN.{length, get_or, set, length-set}
-use lib.Seq.{get_or-set_same, get_or-set_other}
-use Rattle.standard.specs.Outcomes.{level_most}
+-- The runs that are due, as the code keeps them: the one on top, and an array of the others.
+use Rattle.std.specs.Prelude.{ℕ, zero, suc, ◌+◌, ◌-◌, ◌≤◌, ◌<◌, ◌≡◌, refl, List, ◌∷◌, length, get_or, set}
+use Rattle.std.proofs.Common.{sym, ap, ◌∙◌, arith, get_or-set_same, get_or-set_other}
 use Rattle.laws.specs.Flat.{Head, Run, run, push}
 use Rattle.laws.specs.Flow.{push_length}
-use Rattle.reader.specs.Filling.{head_is, kept_is, due_is, Kept, Topped}
-use Rattle.reader.specs.declared.filling.Due.{Due}
+use Rattle.reader.specs.Runs.{head_is, none, kept_is}
+use Rattle.reader.specs.declared.due.Run as code
 
-kept_length : (ls cs : List ℕ) (n : ℕ) → length (kept_is ls cs n) ≤ n
+kept_length : (rs : List code.Run) (n : ℕ) → length (kept_is rs n) ≤ n
 unfolding kept_is
-kept_length ls cs zero = omega arith
-kept_length ls cs (suc n) = omega (arith, kept_length ls cs n, push_length (get_or ls n 0) (head_is (get_or cs n 0)) (kept_is ls cs n))
+kept_length rs zero = omega arith
+kept_length rs (suc n) = omega (arith, kept_length rs n, push_length (get_or rs n none).left (head_is (get_or rs n none).code) (kept_is rs n))
 
 -- a run that makes the stack longer has a value
 push_some : (k : ℕ) (h : Head) (t : List Run) → length t < length (push k h t) → 1 ≤ k
@@ -31,51 +26,46 @@ unfolding push
 push_one zero h t i = absurd (omega arith)
 push_one (suc k) h t i = let e : suc k - 1 ≡ k = omega arith in rw e
 
--- Where the run on top is used up, the last that is kept has a value
+-- none of the runs that are kept is used up
+module _ (rs : List code.Run) (n : ℕ) (f : length (kept_is rs n) ≡ n) where
+  -- Where the run on top is, with k left, the last that is kept has a value
+  module _ (k : ℕ) (h : Head) (e : k ≡ 0) (i : 1 ≤ length (push k h (kept_is rs n))) where
+    pub some_kept : 1 ≤ n
+    some_kept = omega (arith, f, ap length (push_none k h (kept_is rs n) e))
 
-module _ (ls cs : List ℕ) (d : Due) (e : d.left ≡ 0) (g : Kept ls cs d.kept) where
-  kept_top : due_is ls cs d ≡ kept_is ls cs d.kept
-  kept_top = push_none d.left (head_is d.code) (kept_is ls cs d.kept) e
+    abbrev last : code.Run
+    last = get_or rs (n - 1) none
 
-  pub some_kept : 1 ≤ length (due_is ls cs d) → 1 ≤ d.kept
-  some_kept i = omega (arith, rw kept_top at i, g.full)
+    pub popped : push last.left (head_is last.code) (kept_is rs (n - 1)) ≡ push k h (kept_is rs n)
+    unfolding kept_is
+    popped =
+        let s : suc (n - 1) ≡ n = omega (arith, some_kept) in
+        ap (kept_is rs) s ∙ sym (push_none k h (kept_is rs n) e)
 
-  pub popped : 1 ≤ d.kept → Topped ls cs d (record { left = get_or ls (d.kept - 1) 0; code = get_or cs (d.kept - 1) 0; kept = d.kept - 1 })
+    grown : length (push last.left (head_is last.code) (kept_is rs (n - 1))) ≡ n
+    grown = ap length popped ∙ ap length (push_none k h (kept_is rs n) e) ∙ f
+
+    pub still_full : length (kept_is rs (n - 1)) ≡ n - 1
+    still_full = omega (arith, some_kept, grown, kept_length rs (n - 1), push_length last.left (head_is last.code) (kept_is rs (n - 1)))
+
+    pub last_some : 1 ≤ last.left
+    last_some = push_some last.left (head_is last.code) (kept_is rs (n - 1)) (omega (arith, some_kept, grown, kept_length rs (n - 1)))
+
+  -- A run that is put behind those that are kept
+
+  kept_set : (x : code.Run) (m : ℕ) → m ≤ n → kept_is (set rs n x) m ≡ kept_is rs m
   unfolding kept_is
-  popped i =
-      let n = d.kept - 1 in
-      let s : d.kept ≡ suc n = omega arith in
-      let f : length (kept_is ls cs (suc n)) ≡ suc n = ap (λ (m : ℕ). length (kept_is ls cs m)) (sym s) ∙ g.full ∙ s in
-      let u = kept_length ls cs n in
-      let v = push_length (get_or ls n 0) (head_is (get_or cs n 0)) (kept_is ls cs n) in
-      record {
-        some = push_some (get_or ls n 0) (head_is (get_or cs n 0)) (kept_is ls cs n) (omega arith);
-        keeps = record { full = omega arith; few = omega (arith, g.few); left_room = g.left_room; code_room = g.code_room };
-        same = sym (kept_top ∙ ap (kept_is ls cs) s);
-      }
+  kept_set x zero h = refl
+  kept_set x (suc m) h =
+      let o : m ≡ n → ⊥ = omega arith in
+      rw (get_or-set_other rs n m x none o, kept_set x m (omega arith))
 
--- A run that is put behind those that are kept
+  module _ (x : code.Run) (h : n < length rs) where
+    pub kept_more : kept_is (set rs n x) (n + 1) ≡ push x.left (head_is x.code) (kept_is rs n)
+    unfolding kept_is
+    kept_more =
+        let e : n + 1 ≡ suc n = omega arith in
+        rw (e, get_or-set_same rs n x none h, kept_set x n (omega arith))
 
-kept_set : (ls cs : List ℕ) (n x y m : ℕ) → m ≤ n → kept_is (set ls n x) (set cs n y) m ≡ kept_is ls cs m
-unfolding kept_is
-kept_set ls cs n x y zero h = refl
-kept_set ls cs n x y (suc m) h =
-    let o : m ≡ n → ⊥ = omega arith in
-    rw (get_or-set_other ls n m x 0 o, get_or-set_other cs n m y 0 o, kept_set ls cs n x y m (omega arith))
-
-module _ (ls cs : List ℕ) (n x y : ℕ) (g : Kept ls cs n) (h : n < level_most) where
-  pub kept_more : kept_is (set ls n x) (set cs n y) (n + 1) ≡ push x (head_is y) (kept_is ls cs n)
-  unfolding kept_is
-  kept_more =
-      let e : n + 1 ≡ suc n = omega arith in
-      rw (e, get_or-set_same ls n x 0 (omega (arith, g.left_room)), get_or-set_same cs n y 0 (omega (arith, g.code_room)), kept_set ls cs n x y n (omega arith))
-
-  pub keeps_more : (x ≡ 0 → ⊥) → Kept (set ls n x) (set cs n y) (n + 1)
-  keeps_more o =
-      let e : push x (head_is y) (kept_is ls cs n) ≡ run (x - 1) (head_is y) ∷ kept_is ls cs n = push_one x (head_is y) (kept_is ls cs n) (omega arith) in
-      record {
-        full = rw (kept_more, e) (omega (arith, g.full));
-        few = omega arith;
-        left_room = rw length-set g.left_room;
-        code_room = rw length-set g.code_room;
-      }
+    pub more_full : (x.left ≡ 0 → ⊥) → length (kept_is (set rs n x) (n + 1)) ≡ n + 1
+    more_full o = rw (kept_more, push_one x.left (head_is x.code) (kept_is rs n) (omega arith)) (omega (arith, f))

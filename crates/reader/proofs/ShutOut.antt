@@ -2,24 +2,20 @@
 -- the same at 16, is none of the programs that ShutOut.antt of `laws` shuts out. A program is what it
 -- answers and leaves in words and text for what it is lent; it keeps a contract if that meets the promise wherever memory can be lent, and `read_promise`,
 -- `measure_promise` of Unique.antt, `step_promise` and `next_promise` of Walks.antt say that the code's own `ensures` are these promises and nothing else.
-use Prim.Native.Nat.{ℕ}
-use mathlib.Core.Path.{◌≡◌, sym, ap, ◌∙◌}
-use mathlib.Core.List.{List}
-use native.Mathlib.Omega.{arith}
-use lib.Dec.{T}
+use Rattle.std.specs.Prelude.{ℕ, ◌+◌, ◌≡◌, List, Some, None, Result, Ok, T}
+use Rattle.std.specs.Borrow.{Bor}
+use Rattle.std.proofs.Common.{sym, ap, subst, ◌∙◌, arith}
 use Rattle.standard.specs.Outcomes as outcome
 use Rattle.standard.specs.Outcomes.{in_force, end, part, step}
 use Rattle.laws.specs.ShutOut as out
 use Rattle.laws.specs.ShutOut.{Lent, Reader, Reads, GivesOneTable, MakesUp, MakesUpReading, DoneAtOnce, Repeats, two_nulls, second_step}
-use Rattle.reader.specs.InCode.{measured_is, step_is, stepped_is}
-use Rattle.reader.specs.Walking.{NextOf}
-use Rattle.reader.specs.declared.measuring.Measured.{Measured}
-use Rattle.reader.specs.declared.walker.Step.TheVariants.{Done, Value}
-use Rattle.reader.specs.declared.walker.Stepped.{Stepped}
+use Rattle.reader.specs.InCode.{measured_is, stepped_is}
+use Rattle.reader.specs.Walking.{Part, step_of, Next, next_is, Handed, NextOf}
+use Rattle.standard.specs.declared.refusal.Refusal.{Refusal}
+use Rattle.reader.specs.declared.measuring.Extent.{Extent}
 use Rattle.reader.specs.declared.walker.Walker.{Walker}
-use Rattle.reader.specs.declared.walker.Next.{Next}
 use Rattle.reader.proofs.Unique.{Outcome, MeasurePromise, ReadPromise}
-use Rattle.reader.proofs.Walks.{StepPromise}
+use Rattle.reader.proofs.Walks.{Answered, StepPromise}
 
 -- `read`
 
@@ -41,35 +37,36 @@ makes_up_reading l f k = out.makes_up_reading l (said_read f) (keeps_read l f k)
 
 -- `measure`
 
-abbrev pub KeepsMeasure : (limit : ℕ) → ((bytes : List ℕ) → Measured) → Type 0
+abbrev pub KeepsMeasure : (limit : ℕ) → ((bytes : List ℕ) → Result Extent Refusal) → Type 0
 KeepsMeasure l f = (r : List ℕ) → Lent 8 r → MeasurePromise l r (f r)
 
-pub makes_up : (l : ℕ) (f : (bytes : List ℕ) → Measured) → KeepsMeasure l f → MakesUp l (λ r. measured_is (f r)) → ⊥
+pub makes_up : (l : ℕ) (f : (bytes : List ℕ) → Result Extent Refusal) → KeepsMeasure l f → MakesUp l (λ r. measured_is (f r)) → ⊥
 makes_up l f k = out.makes_up l (λ r. measured_is (f r)) k
 
 -- `step_at`
 
-abbrev pub KeepsStep : (limit : ℕ) → ((bytes : List ℕ) → (place : ℕ) → Stepped) → Type 0
+abbrev pub KeepsStep : (limit : ℕ) → ((bytes : List ℕ) → (place : ℕ) → Answered) → Type 0
 KeepsStep l f = (r : List ℕ) (i : ℕ) → Lent 8 r → StepPromise l r i (f r i)
 
-pub done_at_once : (l : ℕ) → T (in_force l) → (f : (bytes : List ℕ) → (place : ℕ) → Stepped) → KeepsStep l f → DoneAtOnce (λ r i. stepped_is (f r i)) → ⊥
-done_at_once l t f k = out.done_at_once l t (λ r i. stepped_is (f r i)) k
+pub done_at_once : (l : ℕ) → T (in_force l) → (f : (bytes : List ℕ) → (place : ℕ) → Answered) → KeepsStep l f → DoneAtOnce (λ r i. stepped_is i (f r i)) → ⊥
+done_at_once l t f k = out.done_at_once l t (λ r i. stepped_is i (f r i)) k
 
-pub repeats : (l : ℕ) → T (in_force l) → (f : (bytes : List ℕ) → (place : ℕ) → Stepped) → KeepsStep l f → Repeats (λ r i. stepped_is (f r i)) → ⊥
-repeats l t f k = out.repeats l t (λ r i. stepped_is (f r i)) k
+pub repeats : (l : ℕ) → T (in_force l) → (f : (bytes : List ℕ) → (place : ℕ) → Answered) → KeepsStep l f → Repeats (λ r i. stepped_is i (f r i)) → ⊥
+repeats l t f k = out.repeats l t (λ r i. stepped_is i (f r i)) k
 
--- `next`: a walker behind the first of two nulls neither says done nor hands out the first again
+-- `next`: a walker behind the first of two nulls neither says that it is at the end nor hands out the first again
 
-module _ (w x : Walker) (r : Next) (g : NextOf w x r) (t : T (in_force w.limit)) (e : w.bytes.now ≡ two_nulls) (f : w.at ≡ 1) where
-  second : step_is r.answer ≡ part 1 1
-  second = g.answer ∙ ap (λ (s : outcome.Stepping). s.answer) ((λ i. step w.limit (e i) (f i)) ∙ second_step w.limit t)
+module _ (w x : Walker) (r : Next) (g : NextOf w r x) (t : T (in_force w.limit)) (e : w.bytes.now ≡ two_nulls) (f : w.at ≡ 1) where
+  second_found : (step_of w).answer ≡ part 1 1
+  second_found = ap (λ (s : outcome.Stepping). s.answer) ((λ i. step w.limit (e i) (f i)) ∙ second_step w.limit t)
 
-  pub next_done_at_once : r.answer ≡ Done → ⊥
+  pub next_done_at_once : r ≡ None → ⊥
   next_done_at_once h =
-      let i : ◌≡◌ {A = outcome.Step} end (part 1 1) = sym (ap step_is h) ∙ second in
+      let i : end ≡ part 1 1 = ap (next_is w.at) (sym h) ∙ g.answer ∙ second_found in
       let z : ◌≡◌ {A = ℕ} 0 1 = cc in omega arith
 
-  pub next_repeats : r.answer ≡ Value 0 1 → ⊥
-  next_repeats h =
-      let i : ◌≡◌ {A = outcome.Step} (part 0 1) (part 1 1) = sym (ap step_is h) ∙ second in
-      let z : ◌≡◌ {A = ℕ} 0 1 = cc in omega arith
+  pub next_repeats : (p : Bor (List ℕ)) → r ≡ Some (Ok p) → p.ref_ptr ≡ w.bytes.ref_ptr → ⊥
+  next_repeats p h i =
+      let q : Part w.bytes (part 1 1) p = subst (λ (s : outcome.Step). Part w.bytes s p) second_found (subst (Handed w.bytes (step_of w).answer) h g.value) in
+      let z : 1 + w.bytes.ref_ptr.1 ≡ w.bytes.ref_ptr.1 = ap (λ x. x.1) (sym q.place ∙ i) in
+      omega (arith, z)

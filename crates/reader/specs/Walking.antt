@@ -1,7 +1,7 @@
 -- What the walker hands out, and where it is afterwards (docs/FORMAT.md, 7): all by what the step at its place is (standard/specs/Outcomes.antt).
 use Rattle.std.specs.Prelude.{ℕ, ◌+◌, ◌≤◌, ◌≡◌, List, [], Option, Some, None, Result, Ok, Err, length, take, drop}
 use Rattle.std.specs.Borrow.{Bor}
-use Rattle.standard.specs.Answer as answer
+use Rattle.standard.specs.Answer.{at}
 use Rattle.standard.specs.Outcomes.{Step, end, part, refused, Stepping, step}
 use Rattle.standard.specs.InCode.{reason_is}
 use Rattle.standard.specs.declared.refusal.Refusal.{Refusal}
@@ -42,13 +42,13 @@ pub record Part (b : Bor (List ℕ)) (s : Step) (p : Bor (List ℕ)) : Type 0 wh
 abbrev pub step_of : Walker → Stepping
 step_of w = step w.limit w.bytes.now w.at
 
--- which step it was: a value begins at the walker's place, and is as long as its bytes
-abbrev pub next_is : Walker → Next → Step
-next_is w None = end
-next_is w (Some (Ok p)) = part w.at (length p.now)
-next_is w (Some (Err f)) = refused (reason_is f.reason) (answer.at f.place)
+-- which step it was, at that place of the bytes: a value is as long as what is handed out
+abbrev pub next_is : (place : ℕ) → Next → Step
+next_is i None = end
+next_is i (Some (Ok p)) = part i (length p.now)
+next_is i (Some (Err f)) = refused (reason_is f.reason) (at f.place)
 
--- the bytes that it hands out are that part of b
+-- the bytes that it hands out are what the step finds in b
 abbrev pub Handed : Bor (List ℕ) → Step → Next → Type 0
 Handed b s None = Unit {0}
 Handed b s (Some (Ok p)) = Part b s p
@@ -56,6 +56,6 @@ Handed b s (Some (Err f)) = Unit {0}
 
 -- what a walker hands out, and the walker afterwards
 pub record NextOf (walker : Walker) (next : Next) (after : Walker) : Type 0 where
-  pub answer : next_is walker next ≡ (step_of walker).answer
+  pub answer : next_is walker.at next ≡ (step_of walker).answer
   pub value : Handed walker.bytes (step_of walker).answer next
   pub moved : after ≡ record { bytes = walker.bytes; at = (step_of walker).at; limit = walker.limit }

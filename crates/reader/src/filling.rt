@@ -175,6 +175,7 @@ fn entry_row(bytes: &[u8], at: usize, code: u8) -> Row
 }
 
 // The row of what stands behind a code. The usual codes go their own way at once: looking the entry up takes as long again.
+#[tactic(auto, unfolding(standard::specs::Codes::entry_of, standard::specs::Codes::codes, standard::specs::Choose::lookup), using(crate::proofs::RowSteps::constant_row, crate::proofs::RowSteps::described_row))]
 fn row_behind(bytes: &[u8], at: usize, code: u8) -> Row
     requires { (at ≤ length bytes.now) × Lands (behind_step (kind_of code) (drop at bytes.now) (layout_of code)) }
     ensures { RowFound bytes.now (behind_step (kind_of code) (drop at bytes.now) (layout_of code)) result }

@@ -44,4 +44,4 @@ pub overflow_add-result : goal.overflow_add-result
 overflow_add-result c = omega (arith, item (goal.at.overflow_add-result c).Else-size-width)
 
 pub returns : goal.returns
-returns c = rw (c.array_number.ensures, c.byte.ensures.0) (items_row c.args.bytes.now c.args.kind c.args.at c.requires.1 c.args.width c.narrow_at-count.result c.requires.2 c.narrow_at-count.ensures.0 (λ e. c.if-size-width.false (c.narrow_at-size.ensures.0 ∙ e)) _ refl (rw c.byte.ensures.0 at c.byte.ensures.1))
+returns c = rw c.array_number.ensures (items_row c.args.bytes.now c.args.kind c.args.at c.requires.1 c.args.width c.narrow_at-count.result c.requires.2 c.narrow_at-count.ensures.0 (λ e. c.if-size-width.false (c.narrow_at-size.ensures.0 ∙ e)) _ refl)

@@ -1,64 +1,31 @@
 -- `fill` takes row after row.
-use mathlib.Core.Path.{refl, ◌∙◌}
-use native.Mathlib.Omega.{arith}
-use lib.ListN.{length-set}
-use Rattle.reader.proofs.Filled.{begin, end, some_due, row_lands, few_kept, text_fits_lem, again}
+use Rattle.std.proofs.Common.{refl, ap, ◌∙◌, arith, length, take, drop, length-set}
+use lib.Seq.{length-sets}
+use Rattle.reader.proofs.Filled.{begin, end, some_due, row_lands, few_kept, text_fits_lem, copied, again}
 use Rattle.reader.proofs.filling.fill.Goals as goal
 
 pub loop-row-init : goal.loop-row-init
-loop-row-init c = (refl, refl, begin _ _ _ _ _ _ refl refl c.requires)
+loop-row-init c = (refl, refl, begin _ _ _ _ _ c.one-due.ensures c.requires)
 
-pub next_run-due-requires : goal.next_run-due-requires
-next_run-due-requires c = (some_due c.loop-row.invariant.2 c.loop-row-test.true, c.loop-row.invariant.2.keeps)
+pub next_run-requires : goal.next_run-requires
+next_run-requires c = some_due c.loop-row.invariant.2 c.loop-row-test.true
 
 pub row_at-r-requires : goal.row_at-r-requires
-row_at-r-requires c = (c.loop-row.invariant.2.here, row_lands c.loop-row.invariant.2 c.loop-row-test.true c.next_run-due.ensures)
+row_at-r-requires c = (c.loop-row.invariant.2.here, row_lands c.loop-row.invariant.2 c.loop-row-test.true c.next_run.new.self c.next_run.ensures)
 
-pub overflow_mul-k : goal.overflow_mul-k
-overflow_mul-k c = omega (arith, c.loop-row-test.true, c.loop-row.invariant.2.row_room, c.loop-row.invariant.0)
+pub slice_bounds-copy_from_slice-end : goal.slice_bounds-copy_from_slice-end
+slice_bounds-copy_from_slice-end c = text_fits_lem c.loop-row.invariant.2 c.loop-row-test.true c.next_run.new.self c.next_run.ensures c.row_at-r.ensures
 
-pub offset_bounds-words-k : goal.offset_bounds-words-k
-offset_bounds-words-k c = omega (arith, c.loop-row-test.true, c.loop-row.invariant.2.row_room, c.loop-row.invariant.0)
-
-pub bounds-words-k : goal.bounds-words-k
-bounds-words-k c = omega (arith, c.loop-row-test.true, c.loop-row.invariant.2.row_room, c.loop-row.invariant.0)
-
-pub overflow_add-words : goal.overflow_add-words
-overflow_add-words c = omega (arith, c.loop-row-test.true, c.loop-row.invariant.2.row_room, c.loop-row.invariant.0)
-
-pub offset_bounds-words-k-in-loop-row : goal.offset_bounds-words-k-in-loop-row
-offset_bounds-words-k-in-loop-row c = omega (arith, c.loop-row-test.true, c.loop-row.invariant.2.row_room, c.loop-row.invariant.0)
-
-pub bounds-words-k-in-loop-row : goal.bounds-words-k-in-loop-row
-bounds-words-k-in-loop-row c = simp length-set (omega (arith, c.loop-row-test.true, c.loop-row.invariant.2.row_room, c.loop-row.invariant.0))
-
-pub put_text-requires : goal.put_text-requires
-put_text-requires c = (text_fits_lem c.loop-row.invariant.2 c.loop-row-test.true c.next_run-due.ensures c.row_at-r.ensures, c.row_at-r.ensures.inside)
-
-pub after_row-due-requires : goal.after_row-due-requires
-after_row-due-requires c = (c.next_run-due.ensures.some, few_kept c.loop-row.invariant.2 c.loop-row-test.true c.next_run-due.ensures, c.next_run-due.ensures.keeps)
-
-pub overflow_add-at : goal.overflow_add-at
-overflow_add-at c = omega (arith, c.row_at-r.ensures.inside, c.well_formed.0.0)
-
-pub overflow_add-letters : goal.overflow_add-letters
-overflow_add-letters c = omega (arith, text_fits_lem c.loop-row.invariant.2 c.loop-row-test.true c.next_run-due.ensures c.row_at-r.ensures, c.loop-row.invariant.1, c.well_formed.1.1.0.0)
-
-pub overflow_add-row : goal.overflow_add-row
-overflow_add-row c = omega (arith, c.loop-row-test.true, c.ranges)
-
-pub loop-row-smaller : goal.loop-row-smaller
-loop-row-smaller c = omega (arith, c.loop-row-test.true)
+pub after_row-requires : goal.after_row-requires
+after_row-requires c = (c.next_run.ensures.0, few_kept c.loop-row.invariant.2 c.loop-row-test.true c.next_run.new.self c.next_run.ensures)
 
 pub loop-row-preserved : goal.loop-row-preserved
-loop-row-preserved c = let o = c.loop-row.invariant in
-    (simp length-set o.0, c.put_text.auto.text ∙ o.1, again o.2 c.loop-row-test.true c.next_run-due.ensures c.row_at-r.ensures c.put_text.ensures c.after_row-due.ensures.0 c.after_row-due.ensures.1)
-
-pub shape_of-words : goal.shape_of-words
-shape_of-words c = c.loop-row.invariant.0
-
-pub shape_of-text : goal.shape_of-text
-shape_of-text c = c.loop-row.invariant.1
+loop-row-preserved c =
+    let o = c.loop-row.invariant in
+    let r = c.row_at-r in
+    let f = text_fits_lem o.2 c.loop-row-test.true c.next_run.new.self c.next_run.ensures r.ensures in
+    let q = copied c.loop-row.text c.args.bytes.now c.copy_from_slice.new.self c.loop-row.letters r.result.from r.result.text f r.ensures.inside c.copy_from_slice.ensures.after in
+    (simp length-set o.0, ap length q ∙ length-sets c.loop-row.text c.loop-row.letters (take r.result.text (drop r.result.from c.args.bytes.now)) ∙ o.1, rw c.from.ensures (again o.2 c.loop-row-test.true c.next_run.new.self c.next_run.ensures r.ensures q c.after_row.ensures))
 
 pub returns : goal.returns
-returns c = end c.loop-row.invariant.2 c.loop-row-test.false
+returns c = end c.loop-row.invariant.2 (omega arith)

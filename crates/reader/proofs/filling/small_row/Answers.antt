@@ -18,10 +18,10 @@ pub bounds-bytes-at : goal.bounds-bytes-at
 bounds-bytes-at c = omega (arith, fits (goal.at.bounds-bytes-at c).Start)
 
 pub extended-requires : goal.extended-requires
-extended-requires c = (c.byte.ensures.1, four_or_eight c.args.width c.requires.0)
+extended-requires c = (omega (arith, c.from.ensures, (c.type_inv.bytes c.args.at).fits), four_or_eight c.args.width c.requires.0)
 
 pub overflow_add-at : goal.overflow_add-at
 overflow_add-at c = omega (arith, fits (goal.at.overflow_add-at c).Start)
 
 pub returns : goal.returns
-returns c = rw c.leaf.ensures (small_row c.args.bytes.now c.args.kind c.args.at c.requires.1 c.args.width c.extended.result (fits (goal.at.returns c).Start) (c.extended.ensures ∙ ap (extend c.args.width) c.byte.ensures.0))
+returns c = rw c.leaf.ensures (small_row c.args.bytes.now c.args.kind c.args.at c.requires.1 c.args.width c.extended.result (fits (goal.at.returns c).Start) (c.extended.ensures ∙ ap (extend c.args.width) c.from.ensures))

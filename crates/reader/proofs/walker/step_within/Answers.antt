@@ -1,6 +1,6 @@
 -- `step_within` measures what is left, where the limit may be named and something is left.
-use mathlib.Core.Path.{sym, ap, ◌∙◌}
-use native.Mathlib.Omega.{arith}
+use Rattle.std.proofs.Common.{◌≡◌, ◌+◌, ◌-◌, sym, ap, ◌∙◌, arith}
+use Rattle.std.proofs.lemmas.Result.{err_from_is_err_and}
 use Rattle.standard.specs.Outcomes.{stepped}
 use Rattle.standard.specs.Facts.{true_T, false_T}
 use Rattle.reader.specs.InCode.{stepped_is}
@@ -9,21 +9,24 @@ use Rattle.reader.proofs.Stepping.{steps, ends_within}
 use Rattle.reader.proofs.walker.step_within.Goals as goal
 
 pub returns-then-not-is_in_force : goal.returns-then-not-is_in_force
-returns-then-not-is_in_force c = ap stepped_is c.stay.ensures ∙ sym (step_outside _ _ _ (false_T _ (sym c.is_in_force.ensures ∙ c.if-not-is_in_force.true)))
+returns-then-not-is_in_force c = sym (step_outside _ _ _ (false_T _ (sym c.is_in_force.ensures ∙ c.if-not-is_in_force.true)))
 
 pub returns-then-bytes-at : goal.returns-then-bytes-at
-returns-then-bytes-at c = ap stepped_is c.stay-then-bytes-at.ensures ∙ sym (step_end _ _ _ (true_T _ (sym c.is_in_force.ensures ∙ c.if-not-is_in_force.false)) c.if-bytes-at.true)
+returns-then-bytes-at c = sym (step_end _ _ _ (true_T _ (sym c.is_in_force.ensures ∙ c.if-not-is_in_force.false)) c.if-bytes-at.true)
 
-pub overflow_add-end : goal.overflow_add-end
-overflow_add-end c = let a = c.args in
-    omega (arith, c.well_formed.1.0.0, ends_within a.limit a.at a.bytes.now c.measure_within.result c.if-bytes-at.false c.measure_within.ensures _ c.in-Fits.is)
-
-pub returns-in-Refused : goal.returns-in-Refused
+pub returns-in_err-extent : goal.returns-in_err-extent
 unfolding stepped
-returns-in-Refused c = let a = c.args in
-    ap stepped_is c.stay-in-Refused.ensures ∙ steps a.limit a.at a.bytes.now c.measure_within.result c.if-bytes-at.false c.measure_within.ensures _ c.in-Refused.is
+returns-in_err-extent c = let a = c.args in
+    let p = err_from_is_err_and c.from_residual.result c.from_residual.ensures.1 in
+    rw (p.1, p.2) (steps a.limit a.at a.bytes.now c.measure_within.result c.if-bytes-at.false c.measure_within.ensures _ c.in_err-extent.was)
 
-pub returns-in-Fits : goal.returns-in-Fits
+pub overflow_add-result : goal.overflow_add-result
+overflow_add-result c = let a = c.args in
+    record { fits = omega (arith, c.well_formed.1.0.0, ends_within a.limit a.at a.bytes.now c.measure_within.result c.if-bytes-at.false c.measure_within.ensures _ c.in_ok-extent.was) }
+
+pub returns : goal.returns
 unfolding stepped
-returns-in-Fits c = let a = c.args in
-    steps a.limit a.at a.bytes.now c.measure_within.result c.if-bytes-at.false c.measure_within.ensures _ c.in-Fits.is
+returns c =
+    let a = c.args in
+    let e : a.at + c.in_ok-extent.extent.length - a.at ≡ c.in_ok-extent.extent.length = omega arith in
+    rw e (steps a.limit a.at a.bytes.now c.measure_within.result c.if-bytes-at.false c.measure_within.ensures _ c.in_ok-extent.was)
