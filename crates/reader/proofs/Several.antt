@@ -9,7 +9,7 @@ use native.Mathlib.Nat.{add-zero, add_assoc, sub-zero}
 use lib.Dec.{T, eqb}
 use lib.ListN.{length, drop, length-append, length-drop}
 use lib.Seq.{drop_at, drop-drop}
-use Rattle.standard.specs.Answer.{Answer, got, refuse, Place, at, byte, ◌>>=◌, too_deep, input_short, payload_bad}
+use Rattle.standard.specs.Answer.{Answer, got, refuse, Place, at, byte, ◌>>=◌, too_deep, input_short}
 use Rattle.standard.specs.Tree.{Tree, Trees, none, more, tall, tall*, text, text*}
 use Rattle.standard.specs.Choose.{if, lookup}
 use Rattle.standard.specs.Bytes.{spell}
@@ -22,10 +22,8 @@ use Rattle.laws.specs.Answers.{Holds, yes', no', on, weaken, out}
 use Rattle.laws.specs.Bounds.{small, element_some}
 use Rattle.laws.specs.Sound.{payload_sound}
 use Rattle.standard.specs.Outcomes.{Extent}
-use Rattle.reader.specs.Measuring.{fits, refused, faulty, untold_is, measured, several, tally_is, reads, reach, code_at, Taking, Roomy, Plain}
-use Rattle.reader.specs.declared.measuring.Tally.{Tally}
+use Rattle.reader.specs.Measuring.{fits, measured, several, reads, reach, code_at, Taking, Roomy, Plain}
 use Rattle.reader.specs.declared.measuring.Start.{Start}
-use Rattle.standard.specs.InCode.{reason_is}
 use Rattle.reader.proofs.Rooms.{back}
 
 -- A value read at the front of a room: what is left is the end of the room, and rows and text are no more than its bytes and a code
@@ -141,14 +139,6 @@ refused_of : (n : ℕ) (m : Answer (Tree × List ℕ)) (x : ℕ) (p : Place) →
 unfolding measured
 refused_of n (got (v, z)) x p h = let z : ◌≡◌ {A = ℕ} 0 1 = cc in absurd (omega arith)
 refused_of n (refuse y q) x p h = let i : y ≡ x = cc in let j : q ≡ p = cc in rw (i, j)
-
-pub tally_fits : (t : Tally) → t.fits ≡ true → tally_is t ≡ fits t.first t.second t.third
-unfolding tally_is
-tally_fits t e = rw e
-
-pub tally_untold : (t : Tally) → t.fits ≡ false → tally_is t ≡ untold_is (reason_is t.reason) t.first t.third
-unfolding tally_is
-tally_untold t e = rw e
 
 -- The code of a value, and where what stands behind it begins
 
@@ -266,13 +256,6 @@ module _ (s : List ℕ) (h : Option ℕ) (l count p a i j k : ℕ) (g : Going s 
       module _ (m : Answer Extent) (d : m ≡ measured (length (drop o.from s)) (payload l o.code (p + a) (drop o.from s))) where
         pub ends : (x : ℕ) (q : Place) → m ≡ refuse x q → refuse x q ≡ several (length s) 0 0 (many (reads h l) count p s)
         ends x q f = fails x q (same ∙ refused_of (length (drop o.from s)) (payload l o.code (p + a) (drop o.from s)) x q (sym d ∙ f))
-
-        pub ends_told : (x q b : ℕ) → m ≡ untold_is x q b → untold_is x q b ≡ several (length s) 0 0 (many (reads h l) count p s)
-        ends_told x q b = by (eqb b 1)
-          where
-            by : (t : Bool) → m ≡ if t (faulty q) (refused x q) → if t (faulty q) (refused x q) ≡ several (length s) 0 0 (many (reads h l) count p s)
-            by true f = ends payload_bad (byte q) f
-            by false f = ends x (at q) f
 
         -- the turn goes on behind the value, and takes at least a byte
         pub again : (x : Extent) → m ≡ got x → Going s h l count p (o.from + x.length) (i + x.rows) (j + x.text) (k + 1)

@@ -6,8 +6,6 @@ use Rattle.standard.specs.Codes.{Layout, unknown, described, scalar, compound, a
 use Rattle.standard.specs.Tree.{Tree, Trees, tall, tall*, text, text*}
 use Rattle.standard.specs.Read.{coded, payload}
 use Rattle.standard.specs.Outcomes.{Extent}
-use Rattle.standard.specs.InCode.{reason_is}
-use Rattle.reader.specs.declared.measuring.Tally.{Tally}
 use Rattle.reader.specs.declared.measuring.Start.{Start}
 
 abbrev pub fits : (length rows text : ℕ) → Answer Extent
@@ -19,13 +17,6 @@ refused x p = refuse x (at p)
 -- bad text, by its faulty byte
 abbrev pub faulty : (place : ℕ) → Answer Extent
 faulty p = refuse payload_bad (byte p)
-
--- what was measured, as a struct says it: what does not fit, and all
-abbrev pub untold_is : (number place kept : ℕ) → Answer Extent
-untold_is x p k = if (eqb k 1) (faulty p) (refused x p)
-
-unfoldable pub tally_is : Tally → Answer Extent
-tally_is t = if t.fits (fits t.first t.second t.third) (untold_is (reason_is t.reason) t.first t.third)
 
 -- a value in a room of n bytes
 unfoldable pub measured : (room : ℕ) → Answer (Tree × List ℕ) → Answer Extent

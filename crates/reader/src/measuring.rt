@@ -15,7 +15,7 @@ ghost use Rattle.standard.specs.Outcomes.{level_default};
 ghost use Rattle.standard.specs.InCode.{kind_is, reason_is};
 ghost use Rattle.reader.specs.Entries.{narrow, sure, plain_below, plain_width};
 ghost use Rattle.reader.specs.InCode.{measured_is, extent_is, Settled, found_is, counted_is, body_is};
-ghost use Rattle.reader.specs.Measuring.{untold_is, block, measured, several, contents, above, closed, below, reads, reach, code_at, element_of, is_compound, tally_is, Taking, Plain};
+ghost use Rattle.reader.specs.Measuring.{block, measured, several, contents, above, closed, below, reads, reach, code_at, element_of, is_compound, Taking, Plain};
 ghost use Rattle.reader.specs.declared.measuring.Stop.TheVariants.{Refused};
 
 use crate::number::narrow_at;
@@ -52,17 +52,6 @@ impl From<Stop> for Refusal {
             },
         }
     }
-}
-
-// What was measured, or why not, as a struct: where it `fits` length, rows and text, else the place, 0 and 1 for bad text and 0 for
-// others. An enum goes through memory where branches that build it meet; the fields of a struct stay in registers.
-#[derive(Clone, Copy)]
-struct Tally {
-    fits: bool,
-    reason: Reason,
-    first: usize,
-    second: usize,
-    third: usize,
 }
 
 // The code of a value, and where its payload begins.
@@ -357,46 +346,6 @@ fn compound_of(code: u8) -> Option<CompoundCode>
     }
 }
 
-// What was measured, as a struct.
-#[tactic(auto, unfolding(crate::specs::Measuring::tally_is))]
-fn told(m: Result<Extent, Stop>) -> Tally
-    ensures { tally_is result ≡ counted_is m }
-{
-    match m {
-        Ok(extent) => Tally {
-            fits: true,
-            reason: Reason::PayloadBad,
-            first: extent.length,
-            second: extent.rows,
-            third: extent.text,
-        },
-        Err(Stop::Refused(refusal)) => Tally {
-            fits: false,
-            reason: refusal.reason,
-            first: refusal.place,
-            second: 0,
-            third: 0,
-        },
-        Err(Stop::Faulty(byte)) => Tally {
-            fits: false,
-            reason: Reason::PayloadBad,
-            first: byte,
-            second: 0,
-            third: 1,
-        },
-    }
-}
-
-// And back, of what does not fit.
-fn untold(reason: Reason, place: usize, kept: usize) -> Result<Extent, Stop>
-    ensures { counted_is result ≡ untold_is (reason_is reason) place kept }
-{
-    if kept == 1 {
-        return Err(Stop::Faulty(place));
-    }
-    Err(refused(reason, place))
-}
-
 // So many values, one after another, where so many levels are left.
 // No count is believed: each turn refuses or takes a byte, for a value has its code, and the payload of an element is never empty.
 #[cycle(array_behind_compound_inside_items_many_payload)]
@@ -424,13 +373,10 @@ fn many(
                 bytes: &s[start.from..],
                 place: place + at,
             };
-            let t = payload(room, start.code, levels);
-            if !t.fits {
-                return untold(t.reason, t.first, t.third);
-            }
-            at = start.from + t.first;
-            rows += t.second;
-            text += t.third;
+            let value = payload(room, start.code, levels)?;
+            at = start.from + value.length;
+            rows += value.rows;
+            text += value.text;
         }
     }
     Ok(Extent {
@@ -442,14 +388,14 @@ fn many(
 
 // What stands behind a code. Lists and maps, of which there are many, do not wait for their entry.
 #[cycle(array_behind_compound_inside_items_many_payload)]
-fn payload(room: Room, code: u8, levels: usize) -> Tally
+fn payload(room: Room, code: u8, levels: usize) -> Result<Extent, Stop>
     requires { 0 < levels }
-    ensures { tally_is result ≡ measured (length room.entry.bytes.now) (read.payload levels code room.entry.place room.entry.bytes.now) }
+    ensures { counted_is result ≡ measured (length room.entry.bytes.now) (read.payload levels code room.entry.place room.entry.bytes.now) }
 {
     if let Some(found) = compound_of(code) {
-        return told(compound(room, found.width, found.kind, levels - 1));
+        return compound(room, found.width, found.kind, levels - 1);
     }
-    told(behind(room, code, levels))
+    behind(room, code, levels)
 }
 
 // What stands behind a code that is not a list's or a map's.

@@ -1,7 +1,6 @@
 -- Values and what stands behind codes: `many`, `payload`, `behind`, `compound`, `array`, `inside` and `items` call each other.
 -- Each turn from `many` to `payload` and back costs a level; the measures order the rest.
-use Rattle.std.proofs.Common.{ℕ, ◌≡◌, ◌+◌, ◌-◌, ◌^◌, ◌<◌, T, length, sym, ap, ◌∙◌, arith, Result, Some, None}
-use Rattle.std.proofs.lemmas.Bool.{not-true, not-false}
+use Rattle.std.proofs.Common.{ℕ, ◌≡◌, ◌+◌, ◌-◌, ◌^◌, ◌<◌, T, length, sym, ap, ◌∙◌, arith, refl, Result, Some, None}
 use Rattle.std.proofs.lemmas.Result.{err_from_is_err_and}
 use Rattle.std.specs.Result.{IsErrAnd}
 use mathlib.Core.Bool.{not}
@@ -17,10 +16,10 @@ use Rattle.reader.specs.declared.measuring.Stop.{Stop}
 use Rattle.reader.proofs.Entries.{entry_layout, entry_sure}
 use Rattle.reader.proofs.Scalars.{constant_is, small_is, raw_is}
 use Rattle.reader.proofs.Rooms.{rest, part_length}
-use Rattle.reader.proofs.Several.{tally_fits, tally_untold, run_roomy, Going, begin, end, stops, ends_told, again, plainly, begun}
+use Rattle.reader.proofs.Several.{run_roomy, Going, begin, end, stops, ends, again, plainly, begun}
 use Rattle.reader.proofs.Nodes.{behind_of, compound_of, unknown_is, scalar_is, described_is, Framed, framed, unframed, compound_odd, compound_is, array_is, inside_deep, inside_none, inside_empty, inside_some, items_no, fit_of, items_is}
 use Rattle.reader.proofs.measuring.+array_behind_compound_inside_items_many_payload.Goals as goal
-use Rattle.reader.proofs.measuring.+array_behind_compound_inside_items_many_payload.Goals.{inside-then-count-gt0+else-levels-eq0+else-body-eq0, inside-else-count-gt0, many-then-is_plain+then-end-s, many-else-is_plain+else-not-t}
+use Rattle.reader.proofs.measuring.+array_behind_compound_inside_items_many_payload.Goals.{inside-then-count-gt0+else-levels-eq0+else-body-eq0, inside-else-count-gt0, many-then-is_plain+then-end-s, many-else-is_plain+in_ok-value}
 
 -- what a `?` passes on
 passed : (r : Result Extent Stop) (s : Stop) → IsErrAnd r (λ d. d ≡ s) → counted_is r ≡ stop_is s
@@ -196,37 +195,36 @@ many-invariant_of-room t c =
     let b = begun _ _ _ _ _ _ _ _ _ c.loop.invariant c.loop-test.true _ c.in_ok-start.ensures in
     omega (arith, b.0, b.1, c.loop.invariant.inside, part_length c.in_ok-start.start.from (length c.args.s.now) c.args.s.now b.0 (omega arith))
 
-pub many-payload-t-requires : goal.many-payload-t-requires
-many-payload-t-requires t c =
+pub many-payload-requires : goal.many-payload-requires
+many-payload-requires t c =
     let b = begun _ _ _ _ _ _ _ _ _ c.loop.invariant c.loop-test.true _ c.in_ok-start.ensures in
     (omega arith, b.2)
 
-pub many-returns-then-not-t : goal.many-returns-then-not-t
-many-returns-then-not-t t c =
-    let e = c.payload-t.result in
-    c.untold.ensures ∙ ends_told _ _ _ _ _ _ _ _ _ c.loop.invariant c.loop-test.true _ c.in_ok-start.ensures _ (rw rest at c.payload-t.ensures) (reason_is e.reason) e.first e.third (tally_untold e (not-true _ c.if-not-t.true))
+pub many-returns-in_err-value : goal.many-returns-in_err-value
+many-returns-in_err-value t c =
+    passed _ _ c.from_residual-in_err-value.ensures.1 ∙ ends _ _ _ _ _ _ _ _ _ c.loop.invariant c.loop-test.true _ c.in_ok-start.ensures _ (rw rest at c.in_err-value.ensures) _ _ refl
 
 pub many-overflow_add-at : goal.many-overflow_add-at
 many-overflow_add-at t c =
-    let p = again _ _ _ _ _ _ _ _ _ c.loop.invariant c.loop-test.true _ c.in_ok-start.ensures _ (rw rest at c.payload-t.ensures) _ (tally_fits c.payload-t.result (not-false _ c.if-not-t.false)) in
+    let p = again _ _ _ _ _ _ _ _ _ c.loop.invariant c.loop-test.true _ c.in_ok-start.ensures _ (rw rest at c.in_ok-value.ensures) _ refl in
     omega (arith, p.inside)
 
 pub many-overflow_add-rows-else-is_plain : goal.many-overflow_add-rows-else-is_plain
 many-overflow_add-rows-else-is_plain t c =
-    let p = again _ _ _ _ _ _ _ _ _ c.loop.invariant c.loop-test.true _ c.in_ok-start.ensures _ (rw rest at c.payload-t.ensures) _ (tally_fits c.payload-t.result (not-false _ c.if-not-t.false)) in
+    let p = again _ _ _ _ _ _ _ _ _ c.loop.invariant c.loop-test.true _ c.in_ok-start.ensures _ (rw rest at c.in_ok-value.ensures) _ refl in
     omega (arith, p.inside, p.height)
 
 pub many-overflow_add-text : goal.many-overflow_add-text
 many-overflow_add-text t c =
-    let p = again _ _ _ _ _ _ _ _ _ c.loop.invariant c.loop-test.true _ c.in_ok-start.ensures _ (rw rest at c.payload-t.ensures) _ (tally_fits c.payload-t.result (not-false _ c.if-not-t.false)) in
+    let p = again _ _ _ _ _ _ _ _ _ c.loop.invariant c.loop-test.true _ c.in_ok-start.ensures _ (rw rest at c.in_ok-value.ensures) _ refl in
     omega (arith, p.inside, p.letters)
 
 pub many-loop-preserved : goal.many-loop-preserved
 many-loop-preserved t c = elim c.if-is_plain.branch [
   | many-then-is_plain+then-end-s w ↦
       rw (w.at-is, w.rows-is, w.text-is) (plainly _ _ _ _ _ _ _ _ _ c.loop.invariant c.loop-test.true _ c.in_ok-start.ensures _ (rw c.plain_width.ensures.0 (c.is_plain.ensures w.if-is_plain.true)) (omega (arith, w.if-end-s.true)))
-  | many-else-is_plain+else-not-t w ↦
-      rw (w.at-is, w.rows-is, w.text-is) (again _ _ _ _ _ _ _ _ _ c.loop.invariant c.loop-test.true _ c.in_ok-start.ensures _ (rw rest at w.payload-t.ensures) _ (tally_fits w.payload-t.result (not-false _ w.if-not-t.false)))
+  | many-else-is_plain+in_ok-value w ↦
+      rw (w.at-is, w.rows-is, w.text-is) (again _ _ _ _ _ _ _ _ _ c.loop.invariant c.loop-test.true _ c.in_ok-start.ensures _ (rw rest at w.in_ok-value.ensures) _ refl)
 ]
 
 pub many-returns : goal.many-returns
@@ -236,4 +234,4 @@ pub payload-returns-in-Some : goal.payload-returns-in-Some
 payload-returns-in-Some t c =
     let a = c.args in
     let u = c.in-Some.ensures in
-    c.told.ensures ∙ c.compound.ensures ∙ sym (compound_of a.levels a.code a.room.place _ _ a.room.bytes.now c.requires u.0 u.1)
+    c.compound.ensures ∙ sym (compound_of a.levels a.code a.room.place _ _ a.room.bytes.now c.requires u.0 u.1)
