@@ -17,7 +17,7 @@ fn digit(byte: u8) -> Option<u8>
 }
 
 // What a field has one after another, each once or several times.
-pub(crate) trait Item: Copy {
+trait Item: Copy {
     // The one at the front. A copy of it cannot fail.
     fn of(fields: &mut Fields<'_>) -> Option<Self>
         ensures ahead { Ahead result fields.old.rest.now fields.new.rest.now }

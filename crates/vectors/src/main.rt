@@ -60,7 +60,8 @@ fn replay_case<F: Fn(&[u8]) -> Option<Score>>(
     score.map_or(0, |score| score.right)
 }
 
-// Replays all lines of a file, one after another. A line that is empty or begins with `#` is no case.
+// Replays all lines of a file, one after another. A line that is empty or begins with `#` is no case. The place goes on by hand, since the
+// program takes no memory: a line is read where it begins.
 fn replay_lines<F: Fn(&[u8]) -> Option<Score>>(
     rt: &impl Print,
     name: &str,
