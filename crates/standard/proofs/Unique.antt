@@ -33,8 +33,10 @@ use Rattle.standard.specs.declared.kind.Style.{Style}
 use Rattle.standard.specs.declared.kind.Style.TheVariants.{Numbered, Blob, Lettered, Listed, Mapped, Arrayed, Describing}
 use Rattle.standard.specs.contracts.format_code.entry_of as entry_of
 use Rattle.standard.specs.contracts.kind.Kind.style as style
-use Rattle.standard.specs.contracts.kind.Kind.is_member as is_member
-use Rattle.standard.specs.contracts.kind.Kind.is_fair as is_fair
+use Rattle.standard.specs.contracts.kind.Kind.is_member as is_member_kind
+use Rattle.standard.specs.contracts.kind.Kind.is_fair as is_fair_kind
+use Rattle.standard.specs.contracts.kind.is_fair as is_fair
+use Rattle.standard.specs.contracts.kind.Style.is_member as is_member
 use Rattle.standard.specs.contracts.kind.count_of_elements as count_of_elements
 use Rattle.standard.specs.contracts.kind.kind_of_elements as kind_of_elements
 use Rattle.standard.specs.contracts.refusal.Reason.number as number
@@ -144,11 +146,17 @@ module _ {M : Type 1} {𝓤 : Ura M} (𝓛 : Logic 𝓤) (κs : Lfts 0) (mem : M
   pub style_promise : (k : Kind) (r : Style) → style.ensures-1 𝓛 κs mem run k (record { entry = k; exit = k }) r ≡ fact 𝓤 (style_is r ≡ Kinds.style_of (kind_is k))
   style_promise k r = refl
 
-  pub member_promise : (k : Kind) (r : Bool) → is_member.ensures-1 𝓛 κs mem run k (record { entry = k; exit = k }) r ≡ fact 𝓤 (r ≡ Kinds.member (Kinds.style_of (kind_is k)))
-  member_promise k r = refl
+  pub member_of_kind_promise : (k : Kind) (r : Bool) → is_member_kind.ensures-1 𝓛 κs mem run k (record { entry = k; exit = k }) r ≡ fact 𝓤 (r ≡ Kinds.member (Kinds.style_of (kind_is k)))
+  member_of_kind_promise k r = refl
 
-  pub fair_promise : (k : Kind) (n : ℕ) (r : Bool) → is_fair.ensures-1 𝓛 κs mem run k n (record { entry = k; exit = k }) (record { entry = n; exit = n }) r ≡ fact 𝓤 (r ≡ Kinds.fair (kind_is k) n)
+  pub fair_of_kind_promise : (k : Kind) (n : ℕ) (r : Bool) → is_fair_kind.ensures-1 𝓛 κs mem run k n (record { entry = k; exit = k }) (record { entry = n; exit = n }) r ≡ fact 𝓤 (r ≡ Kinds.fair (kind_is k) n)
+  fair_of_kind_promise k n r = refl
+
+  pub fair_promise : (k n : ℕ) (r : Bool) → is_fair.ensures-1 𝓛 κs mem run k n (record { entry = k; exit = k }) (record { entry = n; exit = n }) r ≡ fact 𝓤 (r ≡ Kinds.fair k n)
   fair_promise k n r = refl
+
+  pub member_promise : (s : Style) (r : Bool) → is_member.ensures-1 𝓛 κs mem run s (record { entry = s; exit = s }) r ≡ fact 𝓤 (r ≡ Kinds.member (style_is s))
+  member_promise s r = refl
 
   pub count_promise : (n r : ℕ) → count_of_elements.ensures-1 𝓛 κs mem run n (record { entry = n; exit = n }) r ≡ fact 𝓤 (r ≡ Kinds.count_in n)
   count_promise n r = refl
@@ -174,7 +182,7 @@ module _ {M : Type 1} {𝓤 : Ura M} (𝓛 : Logic 𝓤) (κs : Lfts 0) (mem : M
   pub nameable_promise : (k : ℕ) (r : Bool) → is_nameable.ensures-1 𝓛 κs mem run k (record { entry = k; exit = k }) r ≡ fact 𝓤 (r ≡ Kinds.nameable k)
   nameable_promise k r = refl
 
-  pub takes_promise : (s : Style) (k : Kind) (n : ℕ) (r : Bool) → takes.ensures-1 𝓛 κs mem run s k n (record { entry = s; exit = s }) (record { entry = k; exit = k }) (record { entry = n; exit = n }) r ≡ fact 𝓤 (r ≡ Table.ranged (style_is s) (kind_is k) n)
+  pub takes_promise : (s : Style) (k n : ℕ) (r : Bool) → takes.ensures-1 𝓛 κs mem run s k n (record { entry = s; exit = s }) (record { entry = k; exit = k }) (record { entry = n; exit = n }) r ≡ fact 𝓤 (r ≡ Table.ranged (style_is s) k n)
   takes_promise s k n r = refl
 
   pub limit_promise : (l : ℕ) (r : Bool) → is_in_force.ensures-1 𝓛 κs mem run l (record { entry = l; exit = l }) r ≡ fact 𝓤 (r ≡ Outcomes.in_force l)

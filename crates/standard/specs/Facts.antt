@@ -4,7 +4,7 @@ use Rattle.std.proofs.Common.{sym, ap, ◌∙◌, ne_eqb, le-leb}
 use Rattle.std.proofs.lemmas.Bool.{lt-leb, false≢true}
 use Rattle.standard.specs.Choose.{if, lookup}
 use Rattle.standard.specs.Text.{Sequence, then, lead_in, flawless, is_flawless, fault_due}
-use Rattle.standard.specs.Kinds.{Style, foreign, numbered, blob, lettered, listed, mapped, arrayed, describing, style_of, kinds, is_kind, member, flaw, clean}
+use Rattle.standard.specs.Kinds.{Style, foreign, numbered, blob, lettered, listed, mapped, arrayed, describing, style_of, kinds, is_kind, member, fair, flaw, clean}
 use Rattle.standard.specs.InCode.{reason_is, kind_is}
 use Rattle.standard.specs.declared.refusal.Reason.{Reason}
 use Rattle.standard.specs.declared.refusal.Reason.TheVariants as reason
@@ -232,3 +232,8 @@ strange (listed e t) h = absurd (false≢true (sym h))
 strange (mapped t) h = absurd (false≢true (sym h))
 strange (arrayed t) h = absurd (false≢true (sym h))
 strange describing h = absurd (false≢true (sym h))
+
+-- and every number of it is fair
+pub unheld : (k n : ℕ) → is_kind (style_of k) ≡ false → true ≡ fair k n
+unfolding style_of kinds lookup is_kind fair
+unheld k n h = rw (ne_eqb k 0x56 (λ e. false≢true (sym h ∙ ap (λ x. is_kind (style_of x)) e)), ne_eqb k 0x73 (λ e. false≢true (sym h ∙ ap (λ x. is_kind (style_of x)) e))) refl

@@ -174,11 +174,10 @@ impl Kind {
     }
 
     // May a row of this kind be an element of an array.
-    #[tactic(auto, unfolding(crate::specs::Kinds::style_of, crate::specs::Kinds::kinds, crate::specs::Choose::lookup, crate::specs::Kinds::member))]
     pub fn is_member(self) -> bool
         ensures { result ≡ member (style_of (kind_is self)) }
     {
-        !matches!(self, Kind::Described | Kind::Null)
+        self.style().is_member()
     }
 
     // Is a boolean 0 or 1, and a char no surrogate and at most 0x10ffff. Every other number is fair.
@@ -191,6 +190,17 @@ impl Kind {
             Kind::Char => number <= 0xd7ff || 0xe000 <= number && number <= 0x10ffff,
             _ => true,
         }
+    }
+}
+
+// The same of a kind by its number: where it is none of the 25 every number is fair.
+#[tactic(auto, using(crate::specs::Facts::unheld))]
+pub fn is_fair(kind: u64, number: u64) -> bool
+    ensures { result ≡ fair kind number }
+{
+    match Kind::try_from(kind) {
+        Ok(kind) => kind.is_fair(number),
+        Err(UnknownKind) => true,
     }
 }
 
@@ -267,6 +277,18 @@ pub fn is_nameable(kind: u64) -> bool
 }
 
 impl Style {
+    // May a row of this style be an element of an array.
+    #[tactic(auto, unfolding(crate::specs::Kinds::member, crate::specs::InCode::style_is))]
+    pub fn is_member(self) -> bool
+        ensures { result ≡ member (style_is self) }
+    {
+        match self {
+            Style::Numbered(_, width) | Style::Blob(width) => 1 <= width,
+            Style::Describing => false,
+            _ => true,
+        }
+    }
+
     // How many bytes of text belong to a row of this style.
     #[tactic(auto, unfolding(crate::specs::Table::letters, crate::specs::InCode::style_is))]
     pub fn letters(self, number: u64) -> u64
@@ -293,11 +315,11 @@ impl Style {
 
     // Is a number in the table's range for its kind, which is of this style.
     #[tactic(auto, unfolding(crate::specs::Table::ranged, crate::specs::Kinds::count_in, crate::specs::Kinds::kind_in, crate::specs::InCode::style_is), using(crate::specs::Facts::strange))]
-    pub fn takes(self, kind: Kind, number: u64) -> bool
-        ensures { result ≡ ranged (style_is self) (kind_is kind) number }
+    pub fn takes(self, kind: u64, number: u64) -> bool
+        ensures { result ≡ ranged (style_is self) kind number }
     {
         match self {
-            Style::Numbered(_, width) => fits_width(number, width) && kind.is_fair(number),
+            Style::Numbered(_, width) => fits_width(number, width) && is_fair(kind, number),
             Style::Blob(_) => number == 0,
             Style::Lettered(_) | Style::Listed(_, _) => number <= MOST,
             Style::Mapped(_) => number <= MOST && number % 2 == 0,
