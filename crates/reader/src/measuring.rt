@@ -146,7 +146,7 @@ fn sized(room: Room, width: usize, kind: Kind) -> Result<Extent, Stop>
     if bytes.len() - width < count {
         return Err(refused(Reason::InputShort, place));
     }
-    let good = text::good_length(kind, bytes, width, count);
+    let good = text::good_length(u64::from(kind), bytes, width, count);
     if good < count {
         return Err(Stop::Faulty(place + 1 + width + good));
     }

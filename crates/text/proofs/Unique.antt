@@ -15,8 +15,6 @@ use Rattle.std.specs.Prelude.{Option, Some, None}
 use Rattle.standard.specs.Text
 use Rattle.standard.specs.Text.{utf8, ascii, fault_in}
 use Rattle.standard.specs.Kinds.{flaw, good_length}
-use Rattle.standard.specs.InCode.{kind_is}
-use Rattle.standard.specs.declared.kind.Kind.{Kind}
 use Rattle.text.specs.InCode.{fault_is}
 use Rattle.text.specs.contracts.utf8_fault as utf8_fault
 use Rattle.text.specs.contracts.ascii_fault as ascii_fault
@@ -46,8 +44,8 @@ module _ {M : Type 1} {𝓤 : Ura M} (𝓛 : Logic 𝓤) (κs : Lfts 1) (mem : M
   pub ascii_promise : (t : Bor (List ℕ)) (r : Option ℕ) → ascii_fault.ensures-1 𝓛 κs mem run t (record { entry = t; exit = t }) r ≡ fact 𝓤 (fault_is r ≡ fault_in ascii t.now)
   ascii_promise t r = refl
 
-  pub flaw_promise : (k : Kind) (t : Bor (List ℕ)) (r : Option ℕ) → flaw_of.ensures-1 𝓛 κs mem run k t (record { entry = k; exit = k }) (record { entry = t; exit = t }) r ≡ fact 𝓤 (fault_is r ≡ flaw (kind_is k) t.now)
+  pub flaw_promise : (k : ℕ) (t : Bor (List ℕ)) (r : Option ℕ) → flaw_of.ensures-1 𝓛 κs mem run k t (record { entry = k; exit = k }) (record { entry = t; exit = t }) r ≡ fact 𝓤 (fault_is r ≡ flaw k t.now)
   flaw_promise k t r = refl
 
-  pub good_promise : (k : Kind) (t : Bor (List ℕ)) (s n r : ℕ) → good_length.ensures-1 𝓛 κs mem run k t s n (record { entry = k; exit = k }) (record { entry = t; exit = t }) (record { entry = s; exit = s }) (record { entry = n; exit = n }) r ≡ fact 𝓤 (r ≡ good_length (kind_is k) (take n (drop s t.now)))
+  pub good_promise : (k : ℕ) (t : Bor (List ℕ)) (s n r : ℕ) → good_length.ensures-1 𝓛 κs mem run k t s n (record { entry = k; exit = k }) (record { entry = t; exit = t }) (record { entry = s; exit = s }) (record { entry = n; exit = n }) r ≡ fact 𝓤 (r ≡ good_length k (take n (drop s t.now)))
   good_promise k t s n r = refl

@@ -4,7 +4,6 @@
 ghost use Rattle.std.specs.Prelude.{◌≡◌, [], ◌∷◌, ◌+◌, ◌-◌, ◌≤◌, leb, length, position, take, drop};
 ghost use Rattle.standard.specs.Text.{from◌to◌, tail, utf8, ascii, lead_in, fault_in};
 ghost use Rattle.standard.specs.Kinds.{flaw, good_length};
-ghost use Rattle.standard.specs.InCode.{kind_is};
 ghost use Rattle.text.specs.InCode.{fault_is};
 ghost use Rattle.text.specs.Steps.{lead_is, stand, width_in, ascii_run};
 
@@ -136,24 +135,26 @@ pub fn ascii_fault(text: &[u8]) -> Option<usize>
     (end < text.len()).then_some(end)
 }
 
-// The first fault of a row's text: strings are UTF-8, symbols ASCII, and all other text is any bytes.
+// The first fault of a row's text, by the number of the row's kind, whatever that is: strings are UTF-8, symbols ASCII, and all other text is any bytes.
 #[tactic(auto, unfolding(standard::specs::Kinds::flaw))]
-pub fn flaw_of(kind: Kind, text: &[u8]) -> Option<usize>
-    ensures { fault_is result ≡ flaw (kind_is kind) text.now }
+pub fn flaw_of(kind: u64, text: &[u8]) -> Option<usize>
+    ensures { fault_is result ≡ flaw kind text.now }
 {
-    match kind {
-        Kind::String => utf8_fault(text),
-        Kind::Symbol => ascii_fault(text),
-        _ => None,
+    if kind == u64::from(Kind::String) {
+        return utf8_fault(text);
     }
+    if kind == u64::from(Kind::Symbol) {
+        return ascii_fault(text);
+    }
+    None
 }
 
 // Of so many bytes from `start` on, which are a row's text of that kind, how many are good: all, or those before the first fault.
 // Where the text has fewer bytes there, it is of those.
 // 16 bytes of ASCII are good for every kind: where they stand there, a short text needs no look at its own end.
 #[tactic(auto, using(crate::proofs::Parts::block_good, crate::proofs::Parts::past_good))]
-pub fn good_length(kind: Kind, text: &[u8], start: usize, count: usize) -> usize
-    ensures { result ≡ good_length (kind_is kind) (take count (drop start text.now)) }
+pub fn good_length(kind: u64, text: &[u8], start: usize, count: usize) -> usize
+    ensures { result ≡ good_length kind (take count (drop start text.now)) }
 {
     let Some(rest) = text.get(start..) else {
         return 0;

@@ -144,7 +144,7 @@ fn size_text(kind: Kind, number: u64, text: &[u8], from: usize) -> Option<usize>
     if text.len() - from < count {
         return None;
     }
-    if text::good_length(kind, text, from, count) < count {
+    if text::good_length(u64::from(kind), text, from, count) < count {
         return None;
     }
     if number < head::SHORT_END {
