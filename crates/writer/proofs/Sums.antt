@@ -6,6 +6,10 @@ use mathlib.Core.Bool.{Bool, true, false}
 use native.Mathlib.Omega.{arith}
 use native.Mathlib.Nat.{mod-eq_of_lt}
 use lib.Dec.{eqb, leb}
+use Rattle.std.specs.Prelude.{Result, Err}
+use Rattle.std.specs.Result.{IsErrAnd}
+use Rattle.std.proofs.lemmas.Result.{err_from_is_err_and}
+use Rattle.standard.specs.declared.refusal.Refusal.{Refusal}
 use lib.ListN.{length, take, drop, length-append, length-drop}
 use lib.Seq.{drop-drop, drop_at, sets}
 use Rattle.standard.specs.Choose.{if}
@@ -327,3 +331,7 @@ unfit c o (refuse y q) x p h =
     let i : x ≡ y = cc in
     let j : p ≡ q = cc in
     rw (i, j)
+
+-- a refusal that is handed on is the same
+pub handed_on : {A : Type 0} (r : Result A Refusal) (f : Refusal) → IsErrAnd r (λ d. d ≡ f) → r ≡ Err f
+handed_on r f h = let p = err_from_is_err_and r h in rw (p.1, p.2)
