@@ -2,7 +2,7 @@
 use Rattle.std.specs.Prelude.{ℕ, zero, suc, ◌+◌, ◌-◌, ◌*◌, ◌^◌, ◌≤◌, ◌<◌, ◌≡◌, refl, List, [], ◌∷◌, length, take, drop, get_or}
 use Rattle.std.specs.Int.{Width, w8, w16, w32, w64, w128, byte_len, from_be_bytes, sum_through, byte_worth}
 use Rattle.std.proofs.Common.{sym, ap, ◌∙◌, arith, drop-cons, length-take-le, length-drop, take_all}
-use Rattle.std.proofs.Math.Nat.{pow-succ', sub-zero, sub_self}
+use Rattle.std.proofs.Math.Nat.{pow-succ', sub_self}
 use Rattle.standard.specs.Bytes.{unbe, spell}
 use Rattle.laws.specs.Numbers.{halves}
 

@@ -3,7 +3,7 @@ use Rattle.std.specs.Prelude.{ℕ, zero, suc, ◌+◌, ◌-◌, ◌≤◌, ◌<�
 use Rattle.std.proofs.Common.{sym, ap, ◌∙◌, arith, add-zero, leb→le, le-leb, length-drop, take-append-drop, drop-cons, drop-drop, get_or-take, get_or-drop, length-take-le}
 use Rattle.standard.specs.Answer.{Answer, got, refuse, Place, at, ◌>>=◌, need, input_short, size_amiss}
 use Rattle.standard.specs.Bytes.{unbe}
-use Rattle.standard.specs.Codes.{Scalar, constant, whole, small, raw, sized, Layout, unknown, described, scalar, compound, array, entry_of, layout_of, kind_of, element}
+use Rattle.standard.specs.Codes.{Scalar, constant, whole, small, raw, sized, Layout, described, scalar, compound, array, entry_of, layout_of, kind_of, element}
 use Rattle.standard.specs.Kinds.{named}
 use Rattle.standard.specs.Grammar.{extend}
 use Rattle.standard.specs.Read.{cut, plain, fields}

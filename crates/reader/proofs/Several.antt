@@ -3,15 +3,14 @@ use Prim.Native.Nat.{ℕ, zero, suc, ◌+◌, ◌-◌, ◌^◌, ◌≤◌, ◌<�
 use Rattle.std.specs.Prelude.{Option, Some, None}
 use mathlib.Core.Path.{◌≡◌, refl, sym, ap, ◌∙◌}
 use mathlib.Core.List.{List, [], ◌∷◌, ◌++◌}
-use mathlib.Core.Bool.{Bool, true, false}
 use native.Mathlib.Omega.{arith}
 use native.Mathlib.Nat.{add-zero, add_assoc, sub-zero}
-use lib.Dec.{T, eqb}
+use lib.Dec.{T}
 use lib.ListN.{length, drop, length-append, length-drop}
 use lib.Seq.{drop_at, drop-drop}
 use Rattle.standard.specs.Answer.{Answer, got, refuse, Place, at, byte, ◌>>=◌, too_deep, input_short}
 use Rattle.standard.specs.Tree.{Tree, Trees, none, more, tall, tall*, text, text*}
-use Rattle.standard.specs.Choose.{if, lookup}
+use Rattle.standard.specs.Choose.{lookup}
 use Rattle.standard.specs.Bytes.{spell}
 use Rattle.standard.specs.Codes.{codes, entry_of, is_code, layout_of, element}
 use Rattle.standard.specs.Kinds.{fair, flaw}

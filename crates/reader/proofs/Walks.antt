@@ -26,7 +26,7 @@ use Rattle.standard.specs.InCode.{reason_is}
 use Rattle.standard.specs.Facts.{if_case, same_refusal}
 use Rattle.standard.specs.declared.refusal.Refusal.{Refusal}
 use Rattle.reader.specs.InCode.{stepped_is}
-use Rattle.reader.specs.Walking.{fresh, Part, step_of, Next, next_is, Handed, NextOf}
+use Rattle.reader.specs.Walking.{fresh, step_of, Next, next_is, Handed, NextOf}
 use Rattle.reader.specs.declared.walker.Walker.{Walker}
 use Rattle.reader.specs.contracts.walker.step_within as step_within
 use Rattle.reader.specs.contracts.walker.step_at as step_at

@@ -1,6 +1,6 @@
 -- What measuring finds of a value, from what reading it gives (standard/specs/Read.antt): a count for each thing that reading builds.
 use Rattle.std.specs.Prelude.{ℕ, zero, suc, ◌+◌, ◌-◌, ◌^◌, ◌≤◌, ◌<◌, ◌≡◌, List, [], ◌∷◌, T, eqb, leb, length, Bool, true, false, Option, Some, None}
-use Rattle.standard.specs.Answer.{Answer, got, refuse, need, ◌>>=◌, ◌>>◌, Place, at, byte, too_deep, element_unfit, input_short, code_unknown, payload_bad, size_amiss, rows_short, text_short}
+use Rattle.standard.specs.Answer.{Answer, got, refuse, need, ◌>>◌, at, byte, too_deep, element_unfit, input_short, code_unknown, payload_bad, size_amiss, rows_short, text_short}
 use Rattle.standard.specs.Choose.{if}
 use Rattle.standard.specs.Codes.{Layout, unknown, described, scalar, compound, array, layout_of, is_code, element}
 use Rattle.standard.specs.Tree.{Tree, Trees, tall, tall*, text, text*}

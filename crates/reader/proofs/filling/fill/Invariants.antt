@@ -1,5 +1,5 @@
 -- `fill` takes row after row. Invariant: what is left from here comes to what was due at the start (`Going`).
-use Rattle.std.proofs.Common.{◌-◌, ◌≡◌, length}
+use Rattle.std.proofs.Common.{◌≡◌, length}
 use Rattle.standard.specs.Read.{front}
 use Rattle.standard.specs.Outcomes.{level_most, over}
 use Rattle.reader.specs.Filling.{rows_in, text_in}

@@ -1,7 +1,7 @@
 -- `row_at` finds the code, and then the row behind it.
-use Rattle.std.proofs.Common.{◌≡◌, refl, ◌≤◌, length, drop, sym, ap, subst, ◌∙◌, arith}
+use Rattle.std.proofs.Common.{◌≡◌, refl, ◌≤◌, length, drop, subst, arith}
 use Rattle.standard.specs.Codes.{kind_of, layout_of}
-use Rattle.laws.specs.Flat.{own, step_of, behind_step}
+use Rattle.laws.specs.Flat.{step_of, behind_step}
 use Rattle.reader.specs.Runs.{head_is}
 use Rattle.reader.specs.Filling.{Lands}
 use Rattle.reader.proofs.RowSteps.{code_fits, begins_with}

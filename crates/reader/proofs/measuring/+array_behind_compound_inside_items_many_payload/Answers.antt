@@ -1,22 +1,22 @@
 -- Values and what stands behind codes: `many`, `payload`, `behind`, `compound`, `array`, `inside` and `items` call each other.
 -- Each turn from `many` to `payload` and back costs a level; the measures order the rest.
-use Rattle.std.proofs.Common.{ℕ, ◌≡◌, ◌+◌, ◌-◌, ◌^◌, ◌<◌, T, length, sym, ap, ◌∙◌, arith, refl, Result, Some, None}
+use Rattle.std.proofs.Common.{◌≡◌, ◌+◌, ◌-◌, ◌<◌, length, sym, ap, ◌∙◌, arith, refl, Result, Some, None}
 use Rattle.std.proofs.lemmas.Result.{err_from_is_err_and}
 use Rattle.std.specs.Result.{IsErrAnd}
 use mathlib.Core.Bool.{not}
 use Rattle.standard.specs.Answer.{got}
 use Rattle.standard.specs.Codes as codes
 use Rattle.standard.specs.Facts.{and_left}
-use Rattle.standard.specs.InCode.{kind_is, reason_is}
+use Rattle.standard.specs.InCode.{kind_is}
 use Rattle.reader.specs.Measuring.{contents, is_compound}
-use Rattle.reader.specs.Entries.{narrow, judged, sure}
-use Rattle.reader.specs.InCode.{body_in, extent_is, stop_is, counted_is, number_of, place_of}
+use Rattle.reader.specs.Entries.{judged, sure}
+use Rattle.reader.specs.InCode.{body_in, stop_is, counted_is}
 use Rattle.reader.specs.declared.measuring.Extent.{Extent}
 use Rattle.reader.specs.declared.measuring.Stop.{Stop}
 use Rattle.reader.proofs.Entries.{entry_layout, entry_sure}
 use Rattle.reader.proofs.Scalars.{constant_is, small_is, raw_is}
 use Rattle.reader.proofs.Rooms.{rest, part_length}
-use Rattle.reader.proofs.Several.{run_roomy, Going, begin, end, stops, ends, again, plainly, begun}
+use Rattle.reader.proofs.Several.{run_roomy, begin, end, stops, ends, again, plainly, begun}
 use Rattle.reader.proofs.Nodes.{behind_of, compound_of, unknown_is, scalar_is, described_is, Framed, framed, unframed, compound_odd, compound_is, array_is, inside_deep, inside_none, inside_empty, inside_some, items_no, fit_of, items_is}
 use Rattle.reader.proofs.measuring.+array_behind_compound_inside_items_many_payload.Goals as goal
 use Rattle.reader.proofs.measuring.+array_behind_compound_inside_items_many_payload.Goals.{inside-then-count-gt0+else-levels-eq0+else-body-eq0, inside-else-count-gt0, many-then-is_plain+then-end-s, many-else-is_plain+in_ok-value}

@@ -1,5 +1,5 @@
 -- `measure_within` takes a run of one value from the whole input, at a limit that may be named.
-use Rattle.std.proofs.Common.{sym, ap, ◌∙◌}
+use Rattle.std.proofs.Common.{sym, ◌∙◌}
 use Rattle.std.proofs.lemmas.Result.{err_from_is_err_and}
 use Rattle.standard.specs.Read.{settled}
 use Rattle.reader.proofs.Whole.{measure_no, measure_is}

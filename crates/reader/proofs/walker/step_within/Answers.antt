@@ -1,9 +1,8 @@
 -- `step_within` measures what is left, where the limit may be named and something is left.
-use Rattle.std.proofs.Common.{◌≡◌, ◌+◌, ◌-◌, sym, ap, ◌∙◌, arith}
+use Rattle.std.proofs.Common.{◌≡◌, ◌+◌, ◌-◌, sym, ◌∙◌, arith}
 use Rattle.std.proofs.lemmas.Result.{err_from_is_err_and}
 use Rattle.standard.specs.Outcomes.{stepped}
 use Rattle.standard.specs.Facts.{true_T, false_T}
-use Rattle.reader.specs.InCode.{stepped_is}
 use Rattle.laws.specs.Demand1.{step_outside, step_end}
 use Rattle.reader.proofs.Stepping.{steps, ends_within}
 use Rattle.reader.proofs.walker.step_within.Goals as goal
