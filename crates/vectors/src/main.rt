@@ -61,7 +61,7 @@ fn replay_case<F: Fn(&[u8]) -> Option<Score>>(
 }
 
 // Replays all lines of a file, one after another. A line that is empty or begins with `#` is no case. The place goes on by hand, since the
-// program takes no memory: a line is read where it begins.
+// program takes no memory but its stack: each line is read anew, where it begins.
 fn replay_lines<F: Fn(&[u8]) -> Option<Score>>(
     rt: &impl Print,
     name: &str,

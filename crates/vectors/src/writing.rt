@@ -5,7 +5,7 @@ use crate::form::Fields;
 use crate::lent::fill_bytes;
 use standard::refusal::{Reason, Refusal};
 
-// No case has more words.
+// No case has more words. The program takes no memory but its stack, so each case is given buffers of their full size.
 const WORDS: usize = 1024;
 
 // The level limit of a case, and its table: words, and text.
