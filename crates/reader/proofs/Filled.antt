@@ -88,12 +88,17 @@ rows_step l k a b rs =
     rw (e, f)
 
 -- what is copied into a part is stored from its front on
-pub copied : (l b ys : List ℕ) (j i n : ℕ) → j + n ≤ length l → i + n ≤ length b → ys ≡ take (i + n - i) (drop i b) → put_mid j (j + n - j) l ys ≡ sets l j (take n (drop i b))
-copied l b ys j i n g h q =
-    let e : i + n - i ≡ n = omega arith in
-    let f : j + n - j ≡ n = omega arith in
-    let k : length (take n (drop i b)) ≡ n = length-take-le n (drop i b) (omega (arith, length-drop i b)) in
-    rw (q, e, f, sets-eq (take n (drop i b)) l j (omega (arith, k)), k, drop-drop n j l) (sym (append_assoc (take j l) (take n (drop i b)) (drop (j + n) l)))
+pub stored : (l ys zs : List ℕ) (j : ℕ) → j + length ys ≤ length l → zs ≡ ys → put_mid j (j + length ys - j) l zs ≡ sets l j ys
+stored l ys zs j g q =
+    let f : j + length ys - j ≡ length ys = omega arith in
+    rw (q, f, sets-eq ys l j g, drop-drop (length ys) j l) (sym (append_assoc (take j l) ys (drop (j + length ys) l)))
+
+-- the text of a row is so many bytes, from a place on
+pub slice_of : (i n : ℕ) (b : List ℕ) → take (i + n - i) (drop i b) ≡ take n (drop i b)
+slice_of i n b = let e : i + n - i ≡ n = omega arith in ap (λ m. take m (drop i b)) e
+
+pub slice_length : (i n : ℕ) (b : List ℕ) → i + n ≤ length b → length (take (i + n - i) (drop i b)) ≡ n
+slice_length i n b h = ap length (slice_of i n b) ∙ length-take-le n (drop i b) (omega (arith, length-drop i b))
 
 pub begin : (bytes words letters : List ℕ) (n : ℕ) (d : Due) → due_is d ≡ push 1 own [] → Fillable bytes words letters n →
     Going bytes n (over (rows_in (front level_most bytes)) words) (over (text_in (front level_most bytes)) letters) words letters d 0 0 0

@@ -2,6 +2,7 @@
 //
 // There is no recursion into values: what is due is a stack of runs of them (src/due.rt).
 ghost use Rattle.std.specs.Prelude.{◌≡◌, ◌+◌, ◌^◌, ◌≤◌, ◌<◌, ◌||◌, T, eqb, length, drop};
+ghost use Rattle.std.proofs.lemmas.List.Edits.{sets};
 ghost use Rattle.standard.specs.Codes.{kind_of, layout_of, element, scalar, compound, array, whole, small, sized};
 ghost use Rattle.standard.specs.Kinds.{named};
 ghost use Rattle.standard.specs.Grammar.{extend};
@@ -241,6 +242,17 @@ fn row_at(bytes: &[u8], at: usize, code: Option<u8>) -> Row
     row_behind(bytes, behind, code)
 }
 
+// Copies the text of a row. Most rows have none, and make no call for it.
+#[tactic(auto, using(crate::proofs::Filled::stored))]
+fn put_text(text: &mut [u8], at: usize, letters: &[u8])
+    requires { at + length letters.now ≤ length text.old }
+    ensures { text.new ≡ sets text.old at letters.now }
+{
+    if !letters.is_empty() {
+        text[at..at + letters.len()].copy_from_slice(letters);
+    }
+}
+
 // Fills words and text from the value at the front of the bytes, which has so many rows.
 pub(crate) fn fill(bytes: &[u8], words: &mut [u64], text: &mut [u8], rows: usize)
     requires { Fillable bytes.now words.old text.old rows }
@@ -257,7 +269,7 @@ pub(crate) fn fill(bytes: &[u8], words: &mut [u64], text: &mut [u8], rows: usize
         words[k] = u64::from(r.kind);
         words[k + 1] = r.number;
         at = r.from + r.text;
-        text[letters..letters + r.text].copy_from_slice(&bytes[r.from..at]);
+        put_text(text, letters, &bytes[r.from..at]);
         due.after_row(r.children);
         letters += r.text;
     }

@@ -1,7 +1,7 @@
 -- `fill` takes row after row.
 use Rattle.std.proofs.Common.{refl, ap, ◌∙◌, arith, length, take, drop, length-set}
-use lib.Seq.{length-sets}
-use Rattle.reader.proofs.Filled.{begin, end, some_due, row_lands, few_kept, text_fits_lem, copied, again}
+use lib.Seq.{sets, length-sets}
+use Rattle.reader.proofs.Filled.{begin, end, some_due, row_lands, few_kept, text_fits_lem, slice_of, slice_length, again}
 use Rattle.reader.proofs.filling.fill.Goals as goal
 
 pub loop-row-init : goal.loop-row-init
@@ -13,8 +13,10 @@ next_run-requires c = some_due c.loop-row.invariant.2 c.loop-row-test.true
 pub row_at-r-requires : goal.row_at-r-requires
 row_at-r-requires c = (c.loop-row.invariant.2.here, row_lands c.loop-row.invariant.2 c.loop-row-test.true c.next_run.new.self c.next_run.ensures)
 
-pub slice_bounds-copy_from_slice-end : goal.slice_bounds-copy_from_slice-end
-slice_bounds-copy_from_slice-end c = text_fits_lem c.loop-row.invariant.2 c.loop-row-test.true c.next_run.new.self c.next_run.ensures c.row_at-r.ensures
+pub put_text-requires : goal.put_text-requires
+put_text-requires c =
+    let r = c.row_at-r in
+    rw (slice_length r.result.from r.result.text c.args.bytes.now r.ensures.inside) (text_fits_lem c.loop-row.invariant.2 c.loop-row-test.true c.next_run.new.self c.next_run.ensures r.ensures)
 
 pub after_row-requires : goal.after_row-requires
 after_row-requires c = (c.next_run.ensures.0, few_kept c.loop-row.invariant.2 c.loop-row-test.true c.next_run.new.self c.next_run.ensures)
@@ -24,7 +26,7 @@ loop-row-preserved c =
     let o = c.loop-row.invariant in
     let r = c.row_at-r in
     let f = text_fits_lem o.2 c.loop-row-test.true c.next_run.new.self c.next_run.ensures r.ensures in
-    let q = copied c.loop-row.text c.args.bytes.now c.copy_from_slice.new.self c.loop-row.letters r.result.from r.result.text f r.ensures.inside c.copy_from_slice.ensures.after in
+    let q = c.put_text.ensures ∙ ap (sets c.loop-row.text c.loop-row.letters) (slice_of r.result.from r.result.text c.args.bytes.now) in
     (simp length-set o.0, ap length q ∙ length-sets c.loop-row.text c.loop-row.letters (take r.result.text (drop r.result.from c.args.bytes.now)) ∙ o.1, rw c.from.ensures (again o.2 c.loop-row-test.true c.next_run.new.self c.next_run.ensures r.ensures q c.after_row.ensures))
 
 pub returns : goal.returns
