@@ -1,14 +1,17 @@
 -- Numbers in decimal: the digits of `io::decimal` are those of the definition.
 use Prim.Native.Nat.{ℕ, zero, suc, ◌+◌, ◌*◌, ◌-◌, ◌/◌, ◌%◌, ◌^◌, ◌≤◌, ◌<◌}
-use mathlib.Core.Path.{◌≡◌}
+use mathlib.Core.Path.{◌≡◌, refl}
 use mathlib.Core.List.{[], ◌∷◌, ◌++◌}
 use native.Mathlib.Nat.{pow-succ', mod-eq_of_lt, one-le-pow}
 use native.Mathlib.Omega.{arith}
 use borrow.Author.Tests.{lt-ltb, le-ltb}
 use lib.Dec.{ltb}
 use lib.ListN.{length, length-append}
-use Rattle.io.specs.Digits.{last_digits, IsDigitCount}
-use Rattle.standard.specs.Listing.{decimal_in}
+use mathlib.Core.Bool.{Bool, true, false}
+use Rattle.std.specs.Prelude.{cond}
+use Rattle.io.specs.Digits.{last_digits, hex_digit_ascii, IsDigitCount}
+use Rattle.standard.specs.Choose.{if}
+use Rattle.standard.specs.Listing.{decimal_in, hex_digit, hex}
 use Rattle.standard.specs.Facts.{if_case}
 
 -- no more digits than asked for
@@ -37,3 +40,22 @@ digits_decimal (suc d) (suc (suc k)) n h f =
     let i : n < 10 * 10 ^ suc d = rw pow-succ' at h in
     let j = several k n f in
     rw (le-ltb n 10 j.0, lt-ltb (n % 10) 10 (omega arith), digits_decimal d (suc k) (n / 10) (omega arith) j.1)
+
+one_digit : (d : ℕ) → hex_digit_ascii d ≡ hex_digit d
+unfolding hex_digit
+one_digit d = by_test (ltb d 10)
+  where
+    by_test : (y : Bool) → cond y (48 + d) (87 + d) ≡ if y (48 + d) (87 + d)
+    by_test true = refl
+    by_test false = refl
+
+-- a byte takes two digits in hex
+pub digits_hex : (k n : ℕ) → n < 256 → IsDigitCount 16 2 n k → last_digits 16 k n ≡ hex n
+unfolding hex
+digits_hex zero n h f = absurd (omega (arith, f.0))
+digits_hex (suc zero) n h f = absurd (omega (arith, f.0))
+digits_hex (suc (suc zero)) n h f = let i : n / 16 < 16 = omega arith in rw (one_digit (n / 16 % 16), one_digit (n % 16), mod-eq_of_lt i)
+digits_hex (suc (suc (suc k))) n h f =
+    let g : suc (suc (suc k)) - 1 ≡ suc (suc k) = omega arith in
+    let j : 16 * (16 * 16 ^ k) ≤ n = rw (g, pow-succ', pow-succ') at (f.2 (omega arith)) in
+    absurd (omega (arith, one-le-pow k 16 (omega arith)))

@@ -1,28 +1,13 @@
 -- The lines of rows: row by row, and how long they are.
 use Prim.Native.Nat.{ℕ, suc, ◌+◌, ◌*◌, ◌≤◌, ◌<◌}
-use mathlib.Core.Path.{◌≡◌, refl}
-use mathlib.Core.List.{List, [], ◌∷◌, ◌++◌}
+use mathlib.Core.Path.{◌≡◌, refl, ap, subst, ◌∙◌}
+use mathlib.Core.List.{List, [], ◌∷◌, ◌++◌, append_assoc, append-nil}
 use native.Mathlib.Omega.{arith}
-use lib.ListN.{length, drop, get_or, length-append, length-drop}
-use lib.Seq.{drop-cons}
+use lib.ListN.{length, get_or, length-append}
+use native.Mathlib.Numerals.{add-one}
 use Rattle.standard.specs.Listing.{hex, line, lines}
 use Rattle.listing.specs.Lines.{Narrow, line_most}
 use Rattle.listing.proofs.Decimals.{decimal_short}
-
--- the rows from a word on are the row there and those behind it
-rows_at : (w : List ℕ) (k : ℕ) → k + 1 < length w → drop k w ≡ get_or w k 0 ∷ get_or w (k + 1) 0 ∷ drop (k + 2) w
-rows_at w k h =
-    let e : k + 1 ≡ suc k = omega arith in
-    let f : k + 2 ≡ suc (suc k) = omega arith in
-    rw (drop-cons w k 0 (omega arith), drop-cons w (suc k) 0 (omega arith), e, f)
-
--- the lines from a word on are the line of the row there and those behind it
-pub lines_at : (i : ℕ) (w : List ℕ) (k : ℕ) → k + 1 < length w → lines i (drop k w) ≡ line i (get_or w k 0) (get_or w (k + 1) 0) ++ lines (i + 1) (drop (k + 2) w)
-unfolding lines
-lines_at i w k h = let e : i + 1 ≡ suc i = omega arith in rw (rows_at w k h, e)
-
-pub narrow_at : (w : List ℕ) (k : ℕ) → k + 1 < length w → Narrow (drop k w) → (get_or w k 0 < 256) × Narrow (drop (k + 2) w)
-narrow_at w k h n = rw (rows_at w k h) at n
 
 -- a lone word has no line
 lone : (i : ℕ) (w : List ℕ) → length w ≤ 1 → lines i w ≡ []
@@ -31,8 +16,39 @@ lone i [] h = refl
 lone i (k ∷ []) h = refl
 lone i (k ∷ n ∷ w) h = absurd (omega arith)
 
-pub lines_done : (i : ℕ) (w : List ℕ) (k : ℕ) → length w ≤ k + 1 → lines i (drop k w) ≡ []
-lines_done i w k h = lone i (drop k w) (omega (arith, length-drop k w))
+-- what is left to put: the page and the lines of those rows come to what is due
+pub record Left (due page : List ℕ) (row : ℕ) (rest : List ℕ) : Type 0 where
+  pub narrow : Narrow rest
+  pub shows : page ++ lines row rest ≡ due
+
+-- the next row, the line of which has room where all that is due has it
+pub record Next (due page : List ℕ) (row k n : ℕ) (rest : List ℕ) : Type 0 where
+  pub narrow : k < 256
+  pub room : length page + length (line row k n) ≤ length due
+  pub behind : (now : List ℕ) → now ≡ page ++ line row k n → Left due now (row + 1) rest
+
+pair_is : (pair : List ℕ) → length pair ≡ 2 → pair ≡ get_or pair 0 0 ∷ get_or pair 1 0 ∷ []
+pair_is [] h = absurd (omega arith)
+pair_is (k ∷ []) h = absurd (omega arith)
+pair_is (k ∷ n ∷ []) h = refl
+pair_is (k ∷ n ∷ m ∷ w) h = absurd (omega arith)
+
+pub left_on : (due page : List ℕ) (row : ℕ) (rest pair behind : List ℕ) → Left due page row rest → rest ≡ pair ++ behind → length pair ≡ 2 → Next due page row (get_or pair 0 0) (get_or pair 1 0) behind
+unfolding lines
+left_on due page row rest pair behind l e h =
+    let k = get_or pair 0 0 in
+    let n = get_or pair 1 0 in
+    let f : rest ≡ k ∷ n ∷ behind = e ∙ ap (λ p. p ++ behind) (pair_is pair h) in
+    let narrow : (k < 256) × Narrow behind = subst Narrow f l.narrow in
+    let shows : page ++ (line row k n ++ lines (suc row) behind) ≡ due = subst (λ r. page ++ lines row r ≡ due) f l.shows in
+    record {
+      narrow = narrow.0;
+      room = omega (arith, simp length-append at (ap length shows));
+      behind = λ now g. record { narrow = narrow.1; shows = rw (g, add-one, append_assoc) shows };
+    }
+
+pub left_none : (due page : List ℕ) (row : ℕ) (rest : List ℕ) → Left due page row rest → length rest < 2 → page ≡ due
+left_none due page row rest l h = rw (lone row rest (omega arith), append-nil) at l.shows
 
 line_short : (i k n : ℕ) → length (line i k n) ≤ line_most
 unfolding line hex

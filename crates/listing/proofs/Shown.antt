@@ -1,4 +1,4 @@
--- From reading to the listing: where the memory is roomy, what is read is what is listed, and the listing finds room.
+-- From reading to the listing: where the memory has room for it, what is read is what is listed, and the page has room for the listing.
 use Prim.Native.Nat.{ℕ, ◌*◌, ◌-◌, ◌/◌, ◌≤◌, ◌<◌}
 use mathlib.Core.Path.{◌≡◌, refl, sym, ap, ◌∙◌}
 use mathlib.Core.List.{List, [], ◌∷◌, ◌++◌, append_assoc}
@@ -6,16 +6,15 @@ use native.Mathlib.Omega.{arith}
 use borrow.Author.Tests.{le-leb, lt-leb}
 use lib.Dec.{leb, leb→le}
 use lib.ListN.{length, take, drop, length-append}
-use lib.Seq.{sets, take_at}
+use lib.Seq.{take_at}
 use Rattle.standard.specs.Answer.{Answer, got, refuse, Place, at, offset}
 use Rattle.standard.specs.Tree.{Tree, tall, rows, text}
 use Rattle.standard.specs.Outcomes.{over, Extent, extent, arrived, read_into, read}
 use Rattle.standard.specs.Listing.{newline, large_words, lines, shown, input_most, listing}
 use Rattle.standard.specs.Facts.{if_case}
 use Rattle.laws.specs.Unique.{arrived_reads}
-use Rattle.laws.specs.Stores.{front_over}
 use Rattle.laws.specs.Bounds.{rows_length, small}
-use Rattle.listing.specs.Lines.{end_line, refused_line, Narrow, line_most, output_most, Roomy}
+use Rattle.listing.specs.Lines.{end_line, refused_line, Narrow, line_most, output_most}
 use Rattle.listing.proofs.Decimals.{decimal_short}
 use Rattle.listing.proofs.Lines.{lines_short}
 use Rattle.listing.proofs.NarrowKinds.{rows_narrow}
@@ -42,6 +41,11 @@ listing_short l b = if_case (λ s. length s ≤ output_most) (leb (length b) inp
     go h (got (v, z)) e = simp length-append (omega (arith, (value_of l b v z e).height, lines_short 0 (rows v), rows_length v, decimal_short 20 (length b - length z)))
     go h (refuse x p) e = simp length-append (omega (arith, decimal_short 20 x, decimal_short 20 (offset p)))
 
+-- memory in which what is read of any input finds room
+pub record Roomy (words letters : List ℕ) : Type 0 where
+  pub row_room : 2 * input_most ≤ length words
+  pub text_room : input_most ≤ length letters
+
 -- what was read of an input, and what its listing is by that
 pub record Listed (levels : ℕ) (input words : List ℕ) (size rows : ℕ) : Type 0 where
   pub few : rows ≤ input_most
@@ -49,7 +53,7 @@ pub record Listed (levels : ℕ) (input words : List ℕ) (size rows : ℕ) : Ty
   pub short : length (lines 0 (take (2 * rows) words)) ≤ input_most * line_most
   pub shows : listing levels input ≡ lines 0 (take (2 * rows) words) ++ end_line size
 
-module _ (l : ℕ) (b : List ℕ) {w x o : List ℕ} (few : length b ≤ input_most) (room : Roomy w x o) where
+module _ (l : ℕ) (b : List ℕ) {w x : List ℕ} (few : length b ≤ input_most) (room : Roomy w x) where
   read_value : (v : Tree) (z : List ℕ) → arrived l b ≡ got (v, z) → read l b w x ≡ record { answer = got (extent v (length b - length z)); words = over (rows v) w; letters = over (text v) x }
   unfolding read read_into
   read_value v z e =
@@ -95,12 +99,3 @@ module _ (l : ℕ) (b : List ℕ) {w x o : List ℕ} (few : length b ≤ input_m
 pub too_large : (l : ℕ) (b : List ℕ) → input_most < length b → listing l b ≡ large_words ++ (newline ∷ [])
 unfolding listing
 too_large l b h = rw (lt-leb (length b) input_most h)
-
--- what an input that is too large shows, and the output with that at its front
-pub large_length : (l : ℕ) (b : List ℕ) → input_most < length b → length (listing l b) ≡ length (large_words ++ (newline ∷ []))
-large_length l b h = rw (too_large l b h)
-
-pub large_over : (l : ℕ) (b o : List ℕ) → input_most < length b → output_most ≤ length o → over (listing l b) o ≡ sets o 0 (large_words ++ (newline ∷ []))
-large_over l b o h k = rw (too_large l b h) (sym (front_over o (large_words ++ (newline ∷ [])) (omega arith)))
-
-pub ruleset large = (large_length, large_over)

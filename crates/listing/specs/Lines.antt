@@ -1,12 +1,6 @@
 -- What the functions of the listing are held to, beside the definition of its text (Listing.antt of `standard`).
-use Rattle.std.specs.Prelude.{ℕ, ◌+◌, ◌*◌, ◌<◌, ◌≤◌, ◌≡◌, List, [], ◌∷◌, ◌++◌, length}
-use Rattle.std.proofs.lemmas.List.Edits.{sets}
+use Rattle.std.specs.Prelude.{ℕ, ◌+◌, ◌*◌, ◌<◌, List, [], ◌∷◌, ◌++◌, length}
 use Rattle.standard.specs.Listing.{decimal, space, newline, end_word, refused_word, input_most}
-
--- bytes are stored at a place of the output, and `behind` is the place behind them
-pub record Put (bytes before : List ℕ) (at : ℕ) (after : List ℕ) (behind : ℕ) : Type 0 where
-  pub end : behind ≡ at + length bytes
-  pub stored : after ≡ sets before at bytes
 
 -- the line behind the rows, and the line of a refusal
 abbrev pub end_line : (size : ℕ) → List ℕ
@@ -28,9 +22,3 @@ line_most = 45
 -- no listing is longer: there are no more rows than bytes, and one line more
 abbrev pub output_most : ℕ
 output_most = (input_most + 1) * line_most
-
--- memory in which any input and its listing find room
-pub record Roomy (words letters out : List ℕ) : Type 0 where
-  pub row_room : 2 * input_most ≤ length words
-  pub text_room : input_most ≤ length letters
-  pub out_room : output_most ≤ length out

@@ -1,117 +1,96 @@
-// Text of the listing, put into the output. Each function gives the place behind what it put there.
-ghost use Rattle.std.specs.Prelude.{◌≡◌, [], ◌∷◌, ◌+◌, ◌<◌, ◌≤◌, length};
-ghost use Rattle.standard.specs.Listing.{decimal, hex_digit, hex, space, newline, line, lines};
-ghost use Rattle.listing.specs.Lines.{Put, end_line, refused_line, Narrow, line_most};
+// Text of the listing, put behind what stands on a page.
+ghost use Rattle.std.specs.Prelude.{◌≡◌, ◌∷◌, ◌++◌, ◌+◌, ◌<◌, ◌≤◌, length};
+ghost use Rattle.arrayvec.specs.ArrayVec.{array_vec_len};
+ghost use Rattle.standard.specs.InCode.{reason_is};
+ghost use Rattle.standard.specs.Listing.{decimal, hex, space, line, lines};
+ghost use Rattle.listing.specs.Lines.{end_line, refused_line, Narrow, output_most};
 
-// What a digit of 10 and more is added to.
-const LETTER: u8 = b'a' - 10;
+use crate::OUTPUT_MOST;
+use arrayvec::ArrayVec;
+use standard::refusal::Refusal;
+
+pub(crate) type Page = ArrayVec<u8, OUTPUT_MOST>;
 
 // Bytes as they are.
-pub(crate) fn put_bytes(out: &mut [u8], at: usize, bytes: &[u8]) -> usize
-    requires { at + length bytes.now ≤ length out.old }
-    ensures { Put bytes.now out.old at out.new result }
+pub(crate) fn put_bytes(page: &mut Page, bytes: &[u8])
+    requires { array_vec_len page.old + length bytes.now ≤ output_most }
+    ensures { page.new.items ≡ page.old.items ++ bytes.now }
 {
-    let mut k: usize = 0;
-    while k < bytes.len() {
-        out[at + k] = bytes[k];
-        k += 1;
-    }
-    at + k
-}
-
-fn put_newline(out: &mut [u8], at: usize) -> usize
-    requires { at + 1 ≤ length out.old }
-    ensures { Put (newline ∷ []) out.old at out.new result }
-{
-    out[at] = b'\n';
-    at + 1
+    let Ok(()) = page.try_extend_from_slice(bytes) else {
+        unreachable!();
+    };
 }
 
 // A number in decimal.
-fn put_decimal(out: &mut [u8], at: usize, number: u64) -> usize
-    requires { at + length (decimal number) ≤ length out.old }
-    ensures { Put (decimal number) out.old at out.new result }
+fn put_decimal(page: &mut Page, number: u64)
+    requires { array_vec_len page.old + length (decimal number) ≤ output_most }
+    ensures { page.new.items ≡ page.old.items ++ decimal number }
 {
     let mut digits = [0u8; 20];
     let count = io::decimal(number, &mut digits);
-    put_bytes(out, at, &digits[..count])
+    put_bytes(page, &digits[..count]);
 }
 
 // A space, and a number in decimal.
-fn put_number(out: &mut [u8], at: usize, number: u64) -> usize
-    requires { at + length (space ∷ decimal number) ≤ length out.old }
-    ensures { Put (space ∷ decimal number) out.old at out.new result }
+fn put_number(page: &mut Page, number: u64)
+    requires { array_vec_len page.old + length (space ∷ decimal number) ≤ output_most }
+    ensures { page.new.items ≡ page.old.items ++ space ∷ decimal number }
 {
-    out[at] = b' ';
-    put_decimal(out, at + 1, number)
-}
-
-#[tactic(auto, unfolding(standard::specs::Listing::hex_digit))]
-fn hex_digit(digit: u64) -> u8
-    requires { digit < 16 }
-    ensures { result ≡ hex_digit digit }
-{
-    if digit < 10 {
-        return b'0' + digit as u8;
-    }
-    LETTER + digit as u8
+    page.push(b' ');
+    put_decimal(page, number);
 }
 
 // A space, and a kind in two hex digits.
-fn put_hex(out: &mut [u8], at: usize, kind: u64) -> usize
-    requires { (kind < 256) × (at + length (space ∷ hex kind) ≤ length out.old) }
-    ensures { Put (space ∷ hex kind) out.old at out.new result }
+fn put_hex(page: &mut Page, kind: u64)
+    requires { (kind < 256) × (array_vec_len page.old + length (space ∷ hex kind) ≤ output_most) }
+    ensures { page.new.items ≡ page.old.items ++ space ∷ hex kind }
 {
-    out[at] = b' ';
-    out[at + 1] = hex_digit(kind / 16);
-    out[at + 2] = hex_digit(kind % 16);
-    at + 3
+    let mut digits = [0u8; 16];
+    let count = io::hex(kind, 2, &mut digits);
+    page.push(b' ');
+    put_bytes(page, &digits[..count]);
 }
 
 // The line of a row.
-fn put_line(out: &mut [u8], at: usize, row: u64, kind: u64, number: u64) -> usize
-    requires { (kind < 256) × (at + length (line row kind number) ≤ length out.old) }
-    ensures { Put (line row kind number) out.old at out.new result }
+fn put_line(page: &mut Page, row: u64, kind: u64, number: u64)
+    requires { (kind < 256) × (array_vec_len page.old + length (line row kind number) ≤ output_most) }
+    ensures { page.new.items ≡ page.old.items ++ line row kind number }
 {
-    let kind_at = put_decimal(out, at, row);
-    let number_at = put_hex(out, kind_at, kind);
-    let end = put_number(out, number_at, number);
-    put_newline(out, end)
+    put_decimal(page, row);
+    put_hex(page, kind);
+    put_number(page, number);
+    page.push(b'\n');
 }
 
 // A line for each row.
-pub(crate) fn put_lines(out: &mut [u8], at: usize, words: &[u64]) -> usize
-    requires { Narrow words.now × (at + length (lines 0 words.now) ≤ length out.old) }
-    ensures { Put (lines 0 words.now) out.old at out.new result }
+pub(crate) fn put_lines(page: &mut Page, words: &[u64])
+    requires { Narrow words.now × (array_vec_len page.old + length (lines 0 words.now) ≤ output_most) }
+    ensures { page.new.items ≡ page.old.items ++ lines 0 words.now }
 {
-    let mut place = at;
-    let mut row: u64 = 0;
-    let mut k: usize = 0;
-    while k + 1 < words.len() {
-        place = put_line(out, place, row, words[k], words[k + 1]);
-        row += 1;
-        k += 2;
+    for (row, pair) in words.chunks_exact(2).enumerate() {
+        if let [kind, number] = pair {
+            put_line(page, row as u64, *kind, *number);
+        }
     }
-    place
 }
 
 // The line behind the rows of a value: its length.
-pub(crate) fn put_end(out: &mut [u8], at: usize, size: u64) -> usize
-    requires { at + line_most ≤ length out.old }
-    ensures { Put (end_line size) out.old at out.new result }
+pub(crate) fn put_end(page: &mut Page, size: usize)
+    requires { array_vec_len page.old + length (end_line size) ≤ output_most }
+    ensures { page.new.items ≡ page.old.items ++ end_line size }
 {
-    let size_at = put_bytes(out, at, b"end");
-    let end = put_number(out, size_at, size);
-    put_newline(out, end)
+    put_bytes(page, b"end");
+    put_number(page, size as u64);
+    page.push(b'\n');
 }
 
 // The line of a refusal.
-pub(crate) fn put_refusal(out: &mut [u8], at: usize, number: u64, place: u64) -> usize
-    requires { at + length (refused_line number place) ≤ length out.old }
-    ensures { Put (refused_line number place) out.old at out.new result }
+pub(crate) fn put_refusal(page: &mut Page, refusal: Refusal)
+    requires { array_vec_len page.old + length (refused_line (reason_is refusal.reason) refusal.place) ≤ output_most }
+    ensures { page.new.items ≡ page.old.items ++ refused_line (reason_is refusal.reason) refusal.place }
 {
-    let number_at = put_bytes(out, at, b"refused");
-    let place_at = put_number(out, number_at, number);
-    let end = put_number(out, place_at, place);
-    put_newline(out, end)
+    put_bytes(page, b"refused");
+    put_number(page, refusal.reason.number());
+    put_number(page, refusal.place as u64);
+    page.push(b'\n');
 }

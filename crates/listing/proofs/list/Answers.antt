@@ -1,50 +1,47 @@
 -- `list` puts what the listing shows of what was read.
-use Rattle.std.proofs.Common.{◌≤◌, ◌≡◌, length, sym, arith, length-take-le}
+use Rattle.std.proofs.Common.{arith, ◌≤◌, ◌≡◌, ◌∙◌, ◌++◌, sym, ap, length, length-append, length-take-le, take, ◌*◌}
 use Rattle.standard.specs.Outcomes.{level_most}
-use Rattle.standard.specs.Listing.{listing}
-use Rattle.listing.specs.Lines.{refused_line}
-use Rattle.listing.proofs.Puts.{then, whole}
+use Rattle.standard.specs.Listing.{listing, lines}
+use Rattle.standard.specs.InCode.{reason_is}
+use Rattle.reader.specs.InCode.{extent_is}
+use Rattle.listing.specs.Lines.{end_line, refused_line}
+use Rattle.listing.proofs.Decimals.{decimal_short}
 use Rattle.listing.proofs.Shown.{Listed, listed, refused, listing_short}
 use Rattle.listing.proofs.list.Goals as goal
+use Rattle.listing.proofs.list.Goals.{In-Ok, In-Err}
 
-pub overflow_mul-count : goal.overflow_mul-count
-overflow_mul-count c =
-    let f : Listed level_most c.args.bytes.now c.read_within.new.words c.in-Fits.e.length c.in-Fits.e.rows = listed level_most c.args.bytes.now (omega arith) c.requires _ _ c.in-Fits.ensures.0 c.in-Fits.ensures.1 in
-    omega (arith, f.few)
+-- what was read, and its listing
+read : (c : In-Ok) → Listed level_most c.args.bytes.now c.read_within.new.words c.in-Ok.extent.length c.in-Ok.extent.rows
+read c = listed level_most c.args.bytes.now (omega arith) (record { row_room = omega arith; text_room = omega arith }) (extent_is c.in-Ok.extent) _ c.in-Ok.ensures.0 c.in-Ok.ensures.1
+
+-- the listing of a refusal
+told : (c : In-Err) → listing level_most c.args.bytes.now ≡ refused_line (reason_is c.in-Err.refusal.reason) c.in-Err.refusal.place
+told c = refused level_most c.args.bytes.now (omega arith) (record { row_room = omega arith; text_room = omega arith }) _ _ c.in-Err.ensures.0
+
+pub overflow_mul-words : goal.overflow_mul-words
+overflow_mul-words c = omega (arith, (read c).few)
+
+pub slice_bounds-words-end : goal.slice_bounds-words-end
+slice_bounds-words-end c = omega (arith, (read c).few, c.read_within.auto.words)
 
 pub slice_bounds-put_lines-end : goal.slice_bounds-put_lines-end
-slice_bounds-put_lines-end c =
-    let f : Listed level_most c.args.bytes.now c.read_within.new.words c.in-Fits.e.length c.in-Fits.e.rows = listed level_most c.args.bytes.now (omega arith) c.requires _ _ c.in-Fits.ensures.0 c.in-Fits.ensures.1 in
-    omega (arith, f.few, c.requires.row_room, c.read_within.auto.words)
+slice_bounds-put_lines-end c = sym (length-take-le _ _ (omega (arith, (read c).few, c.read_within.auto.words)))
 
-pub slice_bounds-put_lines-end-in-Fits : goal.slice_bounds-put_lines-end-in-Fits
-slice_bounds-put_lines-end-in-Fits c =
-    let f : Listed level_most c.args.bytes.now c.read_within.new.words c.in-Fits.e.length c.in-Fits.e.rows = listed level_most c.args.bytes.now (omega arith) c.requires _ _ c.in-Fits.ensures.0 c.in-Fits.ensures.1 in
-    sym (length-take-le _ _ (omega (arith, f.few, c.requires.row_room, c.read_within.auto.words)))
-
-pub put_lines-at-requires : goal.put_lines-at-requires
-put_lines-at-requires c =
-    let f : Listed level_most c.args.bytes.now c.read_within.new.words c.in-Fits.e.length c.in-Fits.e.rows = listed level_most c.args.bytes.now (omega arith) c.requires _ _ c.in-Fits.ensures.0 c.in-Fits.ensures.1 in
-    (f.narrow, omega (arith, c.requires.out_room, f.short))
+pub put_lines-requires : goal.put_lines-requires
+put_lines-requires c = ((read c).narrow, omega (arith, (read c).short, ap length c.new-page.ensures))
 
 pub put_end-requires : goal.put_end-requires
 put_end-requires c =
-    let f : Listed level_most c.args.bytes.now c.read_within.new.words c.in-Fits.e.length c.in-Fits.e.rows = listed level_most c.args.bytes.now (omega arith) c.requires _ _ c.in-Fits.ensures.0 c.in-Fits.ensures.1 in
-    omega (arith, c.requires.out_room, f.short, c.put_lines-at.auto.out, c.put_lines-at.ensures.end)
+    let short = decimal_short 20 c.in-Ok.extent.length in
+    simp length-append (omega (arith, short, (read (goal.at.put_end-requires c).In-Ok).short, ap length c.new-page.ensures, simp length-append at (ap length c.put_lines.ensures)))
 
 pub put_refusal-requires : goal.put_refusal-requires
-put_refusal-requires c =
-    let e : listing level_most c.args.bytes.now ≡ refused_line c.in-Refused.f.number c.in-Refused.f.place = refused level_most c.args.bytes.now (omega arith) c.requires _ _ c.in-Refused.ensures.0 in
-    omega (arith, c.requires.out_room, rw e at (listing_short level_most c.args.bytes.now))
+put_refusal-requires c = omega (arith, ap length c.new-page.ensures, rw (told c) at (listing_short level_most c.args.bytes.now))
 
-pub returns-in-Fits : goal.returns-in-Fits
-returns-in-Fits c =
-    let f : Listed level_most c.args.bytes.now c.read_within.new.words c.in-Fits.e.length c.in-Fits.e.rows = listed level_most c.args.bytes.now (omega arith) c.requires _ _ c.in-Fits.ensures.0 c.in-Fits.ensures.1 in
-    let h : length (listing level_most c.args.bytes.now) ≤ length c.args.out.now = omega (arith, c.requires.out_room, listing_short level_most c.args.bytes.now) in
-    rw f.shows (whole (rw f.shows at h) (then c.put_lines-at.ensures c.put_end.ensures))
+pub returns-in-Ok : goal.returns-in-Ok
+returns-in-Ok c =
+    let page = c.put_lines.ensures ∙ ap (λ p. p ++ lines 0 (take (2 * c.in-Ok.extent.rows) c.read_within.new.words)) c.new-page.ensures in
+    c.put_end.ensures ∙ ap (λ p. p ++ end_line c.in-Ok.extent.length) page ∙ sym (read (goal.at.returns-in-Ok c).In-Ok).shows
 
-pub returns-in-Refused : goal.returns-in-Refused
-returns-in-Refused c =
-    let e : listing level_most c.args.bytes.now ≡ refused_line c.in-Refused.f.number c.in-Refused.f.place = refused level_most c.args.bytes.now (omega arith) c.requires _ _ c.in-Refused.ensures.0 in
-    let h : length (listing level_most c.args.bytes.now) ≤ length c.args.out.now = omega (arith, c.requires.out_room, listing_short level_most c.args.bytes.now) in
-    rw e (whole (rw e at h) c.put_refusal.ensures)
+pub returns-in-Err : goal.returns-in-Err
+returns-in-Err c = c.put_refusal.ensures ∙ ap (λ p. p ++ refused_line (reason_is c.in-Err.refusal.reason) c.in-Err.refusal.place) c.new-page.ensures ∙ sym (told (goal.at.returns-in-Err c).In-Err)

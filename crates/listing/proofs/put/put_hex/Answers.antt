@@ -1,17 +1,17 @@
--- `put_hex` puts a space and a digit for each half of the kind.
-use Rattle.std.proofs.Common.{arith, length-set}
+-- The two digits of `io::hex` are put behind a space.
+use Rattle.std.proofs.Common.{arith, ◌≡◌, ◌∙◌, ap, ◌++◌, ◌∷◌, length, take, append_assoc}
 use Rattle.standard.specs.Listing.{hex}
-use Rattle.listing.proofs.Puts.{three_put}
+use Rattle.listing.proofs.Decimals.{digits_hex}
 use Rattle.listing.proofs.put.put_hex.Goals as goal
+use Rattle.listing.proofs.put.put_hex.Goals.{After-hex-count}
 
-pub bounds-out-at-2 : goal.bounds-out-at-2
-unfolding hex
-bounds-out-at-2 c = simp length-set (omega arith)
+digits : (c : After-hex-count) → take c.hex-count.result c.hex-count.new.out ≡ hex c.args.kind
+digits c = c.hex-count.ensures.digits ∙ digits_hex c.hex-count.result c.args.kind (omega arith) c.hex-count.ensures.len
 
-pub bounds-out-at-3 : goal.bounds-out-at-3
-unfolding hex
-bounds-out-at-3 c = simp length-set (omega arith)
+pub put_bytes-requires : goal.put_bytes-requires
+put_bytes-requires c = rw (digits (goal.at.put_bytes-requires c).After-hex-count) (omega (arith, c.push.ensures.len))
 
 pub returns : goal.returns
-unfolding hex
-returns c = rw (c.hex_digit.ensures, c.hex_digit-2.ensures) (three_put c.args.out.now c.args.at _ _ _)
+returns c =
+    let e : take c.hex-count.result c.hex-count.new.out ≡ hex c.args.kind = digits (goal.at.returns c).After-hex-count in
+    c.put_bytes.ensures ∙ rw (c.push.ensures.items, e, append_assoc)

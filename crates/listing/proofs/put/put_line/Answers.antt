@@ -1,25 +1,24 @@
 -- `put_line` puts the four parts of a line, one behind another.
-use Rattle.std.proofs.Common.{arith, length-append}
+use Rattle.std.proofs.Common.{arith, length-append, append_assoc, ap, length}
 use Rattle.standard.specs.Listing.{hex, line}
-use Rattle.listing.proofs.Puts.{then}
 use Rattle.listing.proofs.put.put_line.Goals as goal
 
-pub put_decimal-kind_at-requires : goal.put_decimal-kind_at-requires
+pub put_decimal-requires : goal.put_decimal-requires
 unfolding line hex
-put_decimal-kind_at-requires c = omega (arith, simp length-append at c.requires.1)
+put_decimal-requires c = omega (arith, simp length-append at c.requires.1)
 
-pub put_hex-number_at-requires : goal.put_hex-number_at-requires
+pub put_hex-requires : goal.put_hex-requires
 unfolding line hex
-put_hex-number_at-requires c = (c.requires.0, omega (arith, simp length-append at c.requires.1))
+put_hex-requires c = (c.requires.0, omega (arith, simp length-append at c.requires.1, simp length-append at (ap length c.put_decimal.ensures)))
 
-pub put_number-end-requires : goal.put_number-end-requires
+pub put_number-requires : goal.put_number-requires
 unfolding line hex
-put_number-end-requires c = omega (arith, simp length-append at c.requires.1)
+put_number-requires c = omega (arith, simp length-append at c.requires.1, simp length-append at (ap length c.put_decimal.ensures), simp length-append at (ap length c.put_hex.ensures))
 
-pub put_newline-requires : goal.put_newline-requires
+pub push-requires : goal.push-requires
 unfolding line hex
-put_newline-requires c = omega (arith, simp length-append at c.requires.1)
+push-requires c = (omega arith, omega (arith, simp length-append at c.requires.1, simp length-append at (ap length c.put_decimal.ensures), simp length-append at (ap length c.put_hex.ensures), simp length-append at (ap length c.put_number.ensures)))
 
 pub returns : goal.returns
 unfolding line hex
-returns c = then (then (then c.put_decimal-kind_at.ensures c.put_hex-number_at.ensures) c.put_number-end.ensures) c.put_newline.ensures
+returns c = rw (c.push.ensures.items, c.put_number.ensures, c.put_hex.ensures, c.put_decimal.ensures) (simp append_assoc)
