@@ -6,6 +6,7 @@ use crate::lent::{fill_bytes, fill_words};
 use reader::Extent;
 use standard::refusal::{Reason, Refusal};
 use std::ops::Range;
+
 // No case has more words. As in writing, the buffers are on the stack, and of their full size.
 const WORDS: usize = 4096;
 
