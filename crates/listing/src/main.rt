@@ -1,13 +1,13 @@
 // Reads the first value of standard input, and prints its rows (docs/FORMAT.md, 8).
 #![tactic(auto)]
 
-ghost use Rattle.std.specs.Prelude.{◌≡◌, length, IfOk, OnErr};
-ghost use Rattle.io.specs.Counts.{IsPrefixLen};
+ghost use Rattle.std.specs.Prelude.{◌≡◌};
 ghost use Rattle.standard.specs.Outcomes.{level_most};
 ghost use Rattle.standard.specs.Listing.{listing};
 
 mod put;
 
+use arrayvec::ArrayVec;
 use put::Page;
 use standard::limit;
 use std::io;
@@ -15,6 +15,9 @@ use std::io::Read;
 
 // The most bytes that are taken.
 const INPUT_MOST: usize = 4096;
+
+// One byte more, so that a longer input shows.
+const INPUT_ROOM: usize = INPUT_MOST + 1;
 
 // The most bytes of a row's line.
 const LINE_MOST: usize = 45;
@@ -44,25 +47,8 @@ fn list(bytes: &[u8]) -> Page
     page
 }
 
-// Reads until the buffer is full or the input ends, and gives how many bytes stand at the buffer's front.
-fn read_full<R: Read>(input: &mut R, buffer: &mut [u8]) -> io::Result<usize>
-    ensures ok { IfOk result (λ n. IsPrefixLen n buffer.new) }
-    ensures err { OnErr result (length buffer.new ≡ length buffer.old) }
-{
-    let mut done: usize = 0;
-    while done < buffer.len() {
-        let n = input.read(&mut buffer[done..])?;
-        if n == 0 {
-            break;
-        }
-        done += n;
-    }
-    Ok(done)
-}
-
 fn main(rt: HostRuntime) -> io::Result<()> {
-    // one byte more than is taken, so that a longer input shows
-    let mut input = [0u8; INPUT_MOST + 1];
-    let size = read_full(&mut rt.reader(), &mut input)?;
-    rt.write_all(list(&input[..size]).as_slice())
+    let mut input = ArrayVec::<u8, INPUT_ROOM>::new();
+    io::copy(&mut rt.reader().take(INPUT_ROOM as u64), &mut input)?;
+    rt.write_all(list(input.as_slice()).as_slice())
 }

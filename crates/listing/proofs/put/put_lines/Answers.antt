@@ -18,8 +18,7 @@ pub loop-row-init : goal.loop-row-init
 loop-row-init c =
     let e = c.into_iter-row-iterator.ensures.into_iter_gives in
     let source = ap enumerate_source e ∙ c.enumerate-row-items.ensures.source in
-    let rest = ap chunks_exact_rest source ∙ c.chunks_exact.ensures.rest in
-    (
+    let rest = ap chunks_exact_rest source ∙ c.chunks_exact.ensures.rest in (
       search rules,
       search rules,
       ap chunks_exact_size source ∙ c.chunks_exact.ensures.size,
@@ -32,8 +31,7 @@ put_line-requires c = let n = next (goal.at.put_line-requires c).In-Some in (n.n
 pub loop-row-preserved-then-pair-lt3 : goal.loop-row-preserved-then-pair-lt3
 loop-row-preserved-then-pair-lt3 c =
     let n = next (goal.at.loop-row-preserved-then-pair-lt3 c).In-Some in
-    let steps = c.in-Some.ensures.steps in
-    (
+    let steps = c.in-Some.ensures.steps in (
       search rules,
       search rules,
       steps.0.0 ∙ c.loop-row.invariant.2,
