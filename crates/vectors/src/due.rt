@@ -1,5 +1,5 @@
 // What is due of a call: an answer, in each form of the call that the case is about.
-ghost use Rattle.std.specs.Prelude.{◌≤◌};
+ghost use Rattle.std.specs.Prelude.{◌≡◌, ◌≤◌};
 
 use standard::limit;
 use standard::refusal::Refusal;
@@ -39,15 +39,17 @@ pub(crate) fn in_each_form<F: FnMut(Option<usize>) -> bool>(limit: usize, mut is
 // How many answers a case has, at most two, and how many of them are right.
 #[derive(Clone, Copy)]
 pub(crate) struct Score {
-    answers: usize,
+    pub(crate) answers: usize,
     pub(crate) right: usize,
-    ghost few: { right ≤ 2 },
+    ghost few: { answers ≤ 2 },
+    ghost of_these: { right ≤ answers },
 }
 
 impl Score {
     // Of answers, each of which is right or not.
     pub(crate) fn of<const N: usize>(answers: [bool; N]) -> Score
         requires { N ≤ 2 }
+        ensures { result.answers ≡ N }
     {
         Score {
             answers: N,

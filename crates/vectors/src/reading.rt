@@ -1,4 +1,6 @@
 // Cases of the reader: a level limit and bytes, and what is due of measuring, of reading and of the walker.
+ghost use Rattle.std.specs.Prelude.{◌≡◌, IfSome};
+
 use crate::call;
 use crate::due::{Due, Numbered, Score, in_each_form, is_due};
 use crate::form::Fields;
@@ -71,7 +73,9 @@ fn read(
     bytes: &[u8],
     mut lent: Lent<'_>,
     mut want: Lent<'_>,
-) -> Option<Score> {
+) -> Option<Score>
+    ensures { IfSome result (λ score. score.answers ≡ 2) }
+{
     want.fill();
     let due = due_of_reading(fields, &mut want)?;
     fields.end()?;
@@ -82,7 +86,9 @@ fn read(
 }
 
 // The same, where the rooms are at the front of the line.
-fn read_into_rooms(fields: &mut Fields<'_>, limit: usize, bytes: &[u8]) -> Option<Score> {
+fn read_into_rooms(fields: &mut Fields<'_>, limit: usize, bytes: &[u8]) -> Option<Score>
+    ensures { IfSome result (λ score. score.answers ≡ 2) }
+{
     let mut words = [0u64; WORDS];
     let mut want_words = [0u64; WORDS];
     let mut text = io::buffer();
@@ -103,7 +109,9 @@ fn read_into_rooms(fields: &mut Fields<'_>, limit: usize, bytes: &[u8]) -> Optio
 }
 
 // `LIMIT BYTES ROOM ROOM ANSWER`, with `LENGTH WORDS TEXT` behind a success.
-pub(crate) fn read_case(line: &[u8]) -> Option<Score> {
+pub(crate) fn read_case(line: &[u8]) -> Option<Score>
+    ensures { IfSome result (λ score. score.answers ≡ 2) }
+{
     let mut input = io::buffer();
     let mut fields = Fields::of(line);
     let limit = fields.decimal()?;
@@ -139,7 +147,9 @@ fn walks(named: Option<usize>, bytes: &[u8], start: usize, mut steps: Fields<'_>
 }
 
 // The walker from that start on, where bytes and steps are at the front of the line: all its steps are right, or none is.
-fn walked(mut fields: Fields<'_>, limit: usize, start: usize) -> Option<Score> {
+fn walked(mut fields: Fields<'_>, limit: usize, start: usize) -> Option<Score>
+    ensures { IfSome result (λ score. score.answers ≡ 1) }
+{
     let mut input = io::buffer();
     let bytes = fields.bytes(&mut input)?;
     Some(Score::of([in_each_form(limit, |named| {
@@ -148,7 +158,9 @@ fn walked(mut fields: Fields<'_>, limit: usize, start: usize) -> Option<Score> {
 }
 
 // `LIMIT BYTES ANSWER ANSWER ..`, with the length of the value behind a success: the steps from the front on.
-pub(crate) fn walk_case(line: &[u8]) -> Option<Score> {
+pub(crate) fn walk_case(line: &[u8]) -> Option<Score>
+    ensures { IfSome result (λ score. score.answers ≡ 1) }
+{
     let mut fields = Fields::of(line);
     let limit = fields.decimal()?;
     fields.space()?;
@@ -156,7 +168,9 @@ pub(crate) fn walk_case(line: &[u8]) -> Option<Score> {
 }
 
 // `LIMIT START BYTES ANSWER ANSWER ..`: the steps from START on.
-pub(crate) fn start_case(line: &[u8]) -> Option<Score> {
+pub(crate) fn start_case(line: &[u8]) -> Option<Score>
+    ensures { IfSome result (λ score. score.answers ≡ 1) }
+{
     let mut fields = Fields::of(line);
     let limit = fields.decimal()?;
     fields.space()?;

@@ -1,4 +1,6 @@
 // Cases of sizing and writing: a level limit and a table, and what is due of the writer.
+ghost use Rattle.std.specs.Prelude.{◌≡◌, IfSome};
+
 use crate::call;
 use crate::due::{Due, Score, in_each_form, is_due};
 use crate::form::Fields;
@@ -58,7 +60,9 @@ fn written(
     table: Table<'_>,
     out: &mut [u8],
     want: &mut [u8],
-) -> Option<Score> {
+) -> Option<Score>
+    ensures { IfSome result (λ score. score.answers ≡ 2) }
+{
     fill_bytes(want);
     let answer = fields.answer()?;
     // behind a refusal there are none
@@ -74,7 +78,9 @@ fn written(
 }
 
 // `LIMIT WORDS TEXT ANSWER`, with the size behind a success.
-pub(crate) fn size_case(line: &[u8]) -> Option<Score> {
+pub(crate) fn size_case(line: &[u8]) -> Option<Score>
+    ensures { IfSome result (λ score. score.answers ≡ 1) }
+{
     let mut words = [0u64; WORDS];
     let mut text = io::buffer();
     let mut fields = Fields::of(line);
@@ -87,7 +93,9 @@ pub(crate) fn size_case(line: &[u8]) -> Option<Score> {
 }
 
 // `LIMIT WORDS TEXT ROOM ANSWER`, with the bytes behind a success.
-pub(crate) fn write_case(line: &[u8]) -> Option<Score> {
+pub(crate) fn write_case(line: &[u8]) -> Option<Score>
+    ensures { IfSome result (λ score. score.answers ≡ 2) }
+{
     let mut words = [0u64; WORDS];
     let mut text = io::buffer();
     let mut out = io::buffer();
