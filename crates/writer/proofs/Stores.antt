@@ -1,7 +1,7 @@
 -- Runs of stores: what stores come to, as one run of bytes.
 use Prim.Native.Nat.{ℕ, zero, suc, ◌+◌, ◌*◌, ◌-◌, ◌/◌, ◌%◌, ◌^◌, ◌≤◌, ◌<◌}
 use mathlib.Core.Path.{◌≡◌, refl, sym, ap, ◌∙◌, subst}
-use mathlib.Core.List.{List, [], ◌∷◌, ◌++◌}
+use mathlib.Core.List.{List, [], ◌∷◌, ◌++◌, append_assoc}
 use native.Mathlib.Nat.{add-zero, zero-add, suc-add, div-one}
 use native.Mathlib.Omega.{arith}
 use borrow.Rule.Slice.PartMut.{put_mid}
@@ -33,7 +33,7 @@ drop_sets l i (a ∷ xs) n h = drop_sets (set l i a) (suc i) xs n (omega arith) 
 pub part_stored : (l : List ℕ) (i e : ℕ) (ys : List ℕ) → i + length ys ≡ e → e ≤ length l → put_mid i (e - i) l ys ≡ sets l i ys
 part_stored l i e ys h k =
     let n : e - i ≡ length ys = omega arith in
-    rw (n, drop-drop (length ys) i l) (sym (sets-eq ys l i (omega arith)))
+    rw (n, drop-drop (length ys) i l, ← append_assoc (take i l) ys (drop (i + length ys) l)) (sym (sets-eq ys l i (omega arith)))
 
 -- the bytes of a number in network byte order are those of the definitions
 byte_is : (w n : ℕ) → byte_at w n ≡ n / 256 ^ w % 256

@@ -127,7 +127,7 @@ fn put_value(table: Table, out: &mut [u8], c: Cursor) -> Cursor
             c.behind(size, number as usize, 0)
         }
         Kind::Decimal128 | Kind::Uuid => {
-            let size = put::put_blob(out, c.at, kind as u8, table.text, c.text);
+            let size = put::put_blob(out, c.at, head::wide_code(kind), table.text, c.text);
             c.behind(size, 16, 0)
         }
         Kind::List | Kind::Map => {
@@ -195,7 +195,7 @@ fn put_array(table: Table, out: &mut [u8], mode: Mode, elements: usize, c: Curso
     let told = kind::kind_of_elements(number).unwrap();
     let at = c.at;
     let size = put_array_fields(out, at, mode, count, 1 + elements as u64);
-    out[at + size] = told as u8;
+    out[at + size] = head::wide_code(told);
     c.behind(size + 1, 0, mark_width(count))
 }
 

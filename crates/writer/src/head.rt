@@ -23,6 +23,13 @@ pub enum Mode {
     Elements,
 }
 
+// The format code of a kind's wide form.
+pub(crate) fn wide_code(kind: Kind) -> u8
+    ensures { result ≡ kind_is kind }
+{
+    kind as u8
+}
+
 // The bytes of an unsigned number of that width, and of one in two's complement.
 fn unsigned_width(number: u64, width: usize) -> usize
     requires { width ≤ 8 }
@@ -66,6 +73,7 @@ pub(crate) fn array_width(elements: usize) -> usize
 }
 
 // How many bytes stand before the text of a value without children.
+#[tactic(auto, unfolding(crate::specs::Heads::head, standard::specs::Kinds::style_of, standard::specs::Kinds::kinds, standard::specs::Choose::lookup, standard::specs::Encode::shortest, standard::specs::Bytes::be, crate::specs::Heads::enclosure), using(crate::proofs::Direct::flag_long))]
 pub(crate) fn head_width(kind: Kind, number: u64) -> usize
     ensures { result ≡ length (head (style_of (kind_is kind)) (kind_is kind % 256) number 0) }
 {
@@ -93,6 +101,7 @@ pub(crate) const ITEM_WIDTH: usize = 8;
 pub(crate) const ITEM_ARRAY_WIDTH: usize = 9;
 
 // How many bytes stand before the text of an element of an array, which has no code of its own and no short form.
+#[tactic(auto, unfolding(crate::specs::Heads::item_width))]
 pub(crate) fn item_width(kind: Kind) -> usize
     ensures { result ≡ item_width (style_of (kind_is kind)) }
 {

@@ -202,6 +202,7 @@ fn put_lettered(
 }
 
 // A row of letters with its text, from `from` on.
+#[tactic(auto, unfolding(crate::specs::Heads::head, standard::specs::Kinds::style_of, standard::specs::Kinds::kinds, standard::specs::Choose::lookup, crate::specs::Direct::spelled))]
 pub(crate) fn put_letters(
     out: &mut [u8],
     at: usize,
@@ -214,7 +215,7 @@ pub(crate) fn put_letters(
         × (at + length (head (style_of (kind_is kind)) (kind_is kind % 256) number 0 ++ take number (drop from text.now)) ≤ length out.old) }
     ensures { Put (head (style_of (kind_is kind)) (kind_is kind % 256) number 0 ++ take number (drop from text.now)) out.old at out.new result }
 {
-    let code = kind as u8;
+    let code = head::wide_code(kind);
     match kind {
         Kind::Binary => put_lettered(out, at, format_code::BINARY_8, code, number, text, from),
         Kind::String => put_lettered(out, at, format_code::STRING_8, code, number, text, from),
@@ -234,12 +235,13 @@ pub(crate) fn put_blob(out: &mut [u8], at: usize, code: u8, text: &[u8], from: u
 }
 
 // A number in the shortest form of its kind.
+#[tactic(auto, unfolding(crate::specs::Heads::head, standard::specs::Kinds::style_of, standard::specs::Kinds::kinds, standard::specs::Choose::lookup, standard::specs::Encode::shortest))]
 pub(crate) fn put_number(out: &mut [u8], at: usize, kind: Kind, number: u64) -> usize
     requires { (is_number (style_of (kind_is kind)) ≡ true)
         × (at + length (head (style_of (kind_is kind)) (kind_is kind % 256) number 0) ≤ length out.old) }
     ensures { Put (head (style_of (kind_is kind)) (kind_is kind % 256) number 0) out.old at out.new result }
 {
-    let code = kind as u8;
+    let code = head::wide_code(kind);
     match kind {
         Kind::Null => put_code(out, at, code),
         Kind::Boolean => put_flag(out, at, format_code::TRUE, format_code::FALSE, number),

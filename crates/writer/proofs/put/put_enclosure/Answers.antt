@@ -6,7 +6,7 @@ use Rattle.writer.proofs.put.put_enclosure.Goals as goal
 
 pub put_sized-requires : goal.put_sized-requires
 unfolding enclosure
-put_sized-requires c = (omega arith, rw (lt-ltb _ _ c.if-body-lt-SHORT_END.true) at c.requires.1)
+put_sized-requires c = (omega arith, omega arith, rw (lt-ltb _ _ c.if-body-lt-SHORT_END.true) at c.requires.1)
 
 pub returns-then-body-lt-SHORT_END : goal.returns-then-body-lt-SHORT_END
 unfolding enclosure
@@ -14,7 +14,7 @@ returns-then-body-lt-SHORT_END c = rw (lt-ltb _ _ c.if-body-lt-SHORT_END.true) c
 
 pub put_sized-requires-2 : goal.put_sized-requires-2
 unfolding enclosure
-put_sized-requires-2 c = (omega arith, rw (le-ltb _ _ c.if-body-lt-SHORT_END.false) at c.requires.1)
+put_sized-requires-2 c = (omega arith, omega arith, rw (le-ltb _ _ c.if-body-lt-SHORT_END.false) at c.requires.1)
 
 pub returns : goal.returns
 unfolding enclosure
