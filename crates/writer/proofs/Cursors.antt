@@ -3,7 +3,6 @@ use Prim.Native.Nat.{ℕ, suc, ◌+◌, ◌%◌, ◌^◌, ◌≤◌, ◌<◌}
 use mathlib.Core.Path.{◌≡◌, refl, sym, ap, ◌∙◌}
 use mathlib.Core.List.{List, [], ◌∷◌, ◌++◌}
 use mathlib.Core.Bool.{true, false}
-use mathlib.Core.Logic.{⊎_elim}
 use native.Mathlib.Omega.{arith}
 use lib.Dec.{eqb}
 use lib.ListN.{length, take, drop, length-append, length-drop}
@@ -20,7 +19,7 @@ use Rattle.writer.specs.Marks.{mark_width}
 use Rattle.writer.specs.Direct.{is_list_or_map, is_arrayed, Put}
 use Rattle.writer.specs.Filling.{behind, kind_at, number_at, letters_at, mark_at, own_at, Ready, Stepped}
 use Rattle.writer.specs.declared.filling.Cursor.{Cursor}
-use Rattle.writer.proofs.Direct.{Sole, Front}
+use Rattle.writer.proofs.Direct.{Sole}
 use Rattle.writer.proofs.Rows.{row_of}
 
 -- the width of a mark is none or three bytes
@@ -117,23 +116,28 @@ array_parts m words text out c h k b i w j =
     front values = let z : 1 + b ≡ suc b = omega arith in rw z
     front elements = let z : 1 + b ≡ suc b = omega arith in rw z
 
--- A front that is written by its kind at once, where the output is known to be as it was
+-- A front that is all of a row's bytes
+module _ {words text out : List ℕ} {c : Cursor} (h : Ready values words text out c) {k n l w : ℕ} {f : List ℕ} (i : k ≡ kind_at words c) (j : n ≡ number_at words c)
+    (s : Sole (style_of k) (k % 256) n (unbe (take w (drop c.mark out))) (drop c.text text) f l w) where
+  sole : (own_at values words text out c ≡ f) × (letters_at words c ≡ l) × (mark_at words c ≡ w)
+  sole =
+      let t = rw (i, j) at s in
+      let r = parts values words text out c h (style_of (kind_at words c)) refl w t.mark l t.texts (unbe (take w (drop c.mark out))) _ _ refl refl refl in
+      (r.bytes ∙ sym t.ahead, r.texts, r.mark)
 
-module _ (words text out : List ℕ) (c : Cursor) (h : Ready values words text out c) (small : (length text < 2 ^ 64) × (length out < 2 ^ 64)) (o : List ℕ) (e : o ≡ out) (f : List ℕ) (l w : ℕ)
-    (front : Front (style_of (kind_at words c)) (kind_at words c % 256) (number_at words c) (unbe (take w (drop c.mark o))) (drop c.text text) f l w) where
-  -- the front is the row's bytes
-  sole : Sole (style_of (kind_at words c)) (kind_at words c % 256) (number_at words c) (unbe (take w (drop c.mark o))) (drop c.text text) f l w → (own_at values words text out c ≡ f) × (letters_at words c ≡ l) × (mark_at words c ≡ w)
-  sole s = let r = parts values words text out c h (style_of (kind_at words c)) refl w s.mark l s.texts (unbe (take w (drop c.mark o))) _ _ (rw e) refl refl in (r.bytes ∙ sym s.ahead, r.texts, r.mark)
+  -- there is room for it, its text and its mark
+  pub sole_fits : c.at + length f ≤ length out
+  sole_fits = omega (arith, h.room, ap length sole.0)
 
-  pub front_fits : c.at + length f ≤ length o
-  front_fits = rw e (⊎_elim (λ i. rw i (omega (arith, h.room))) (λ s. omega (arith, h.room, ap length (sole s).0)) front)
+  pub sole_text : c.text + l ≤ length text
+  sole_text = omega (arith, h.texts, sole.1)
 
-  module _ (after : List ℕ) (r : ℕ) (p : Put f o c.at after r) (i : 0 < r) where
-    whole : (own_at values words text out c ≡ f) × (letters_at words c ≡ l) × (mark_at words c ≡ w)
-    whole = ⊎_elim (λ j. absurd (omega (arith, p.size, ap length j))) (λ s. sole s) front
+  pub sole_mark : c.mark + w ≤ length out
+  sole_mark = omega (arith, h.marked, sole.2)
 
-    pub front_behind : length words < 2 ^ 64 → (c.row + 1 < 2 ^ 64) × (c.text + l < 2 ^ 64) × (c.at + r < 2 ^ 64) × (c.mark + w < 2 ^ 64)
-    front_behind j = (omega (arith, h.row), omega (arith, h.texts, whole.1, small), omega (arith, p.size, front_fits, ap length e, small), omega (arith, h.marked, whole.2, small))
+  module _ {after : List ℕ} {r : ℕ} (p : Put f out c.at after r) where
+    pub sole_behind : length words < 2 ^ 64 → length text < 2 ^ 64 → length out < 2 ^ 64 → (c.row + 1 < 2 ^ 64) × (c.text + l < 2 ^ 64) × (c.at + r < 2 ^ 64) × (c.mark + w < 2 ^ 64)
+    sole_behind a b d = (omega (arith, h.row), omega (arith, sole_text), omega (arith, p.size, sole_fits), omega (arith, sole_mark))
 
-    pub front_stepped : (d : Cursor) → d ≡ behind c r l w → Stepped values words text out c after d
-    front_stepped d j = record { bytes = rw whole.0 (rw e at p.stored); place = j ∙ rw (whole.0, whole.1, whole.2, p.size) }
+    pub sole_stepped : {d : Cursor} → d ≡ behind c r l w → Stepped values words text out c after d
+    sole_stepped e = record { bytes = rw sole.0 p.stored; place = e ∙ rw (sole.0, sole.1, sole.2, p.size) }

@@ -7,7 +7,6 @@ use mathlib.Core.Logic.{⊎_elim}
 use native.Mathlib.Nat.{add-zero, add-suc, suc-add, mod-eq_of_lt}
 use native.Mathlib.Omega.{arith}
 use borrow.Author.Tests.{lt-ltb, ne_eqb}
-use mir.Val.{bool_byte}
 use lib.Dec.{T, eqb, eqb→eq, eqb-suc-zero, leb, leb→le, ltb}
 use lib.ListN.{length, drop, get_or, set, length-append, length-drop, length-set}
 use lib.Seq.{sets, length-sets, get_or-drop, drop-drop, get_or-set_same, get_or-set_other}
@@ -24,15 +23,16 @@ use Rattle.laws.specs.Bounds.{rows_length, small}
 use Rattle.laws.specs.Written.{well_formed}
 use Rattle.laws.specs.Stores.{sets_append}
 use Rattle.standard.proofs.Lookup.{Rest}
-use Rattle.writer.specs.Heads.{head, item_width, body_of, Mode, values, elements, mode_is, mode_of, head_in, written*}
-use Rattle.writer.specs.Direct.{is_list_or_map, is_arrayed, number_head}
+use Rattle.writer.specs.Heads.{head, item_width, body_of, Mode, values, elements, mode_of, head_in, written*}
+use Rattle.writer.specs.Direct.{is_list_or_map, is_arrayed}
 use Rattle.writer.specs.Sizing.{Sure}
 use Rattle.writer.specs.Marks.{mark_width, marks, marks*}
-use Rattle.writer.specs.Marking.{boxes, box_width, kind_on, number_on, bare, due, start_on, place_on, left_on, elements_on, from_start, beyond, closed, taken, stacked, Ready, Complete, Markable}
+use Rattle.writer.specs.Marking.{none_begun, emptied, pushed, last_begun, popped, boxes, box_width, kind_on, number_on, bare, from_start, beyond, mode_in, opened, closed, taken, stacked, Ready, Complete, Markable}
+use Rattle.writer.specs.declared.marking.Begun.{Begun}
+use Rattle.writer.specs.declared.marking.Stack.{Stack}
 use Rattle.writer.specs.declared.marking.Point.{Point}
 use Rattle.writer.proofs.Tabled.{kinds_onto, other}
 use Rattle.writer.proofs.Bodies.{enclosed_width, item_wide, item_short, head_short, kind_small}
-use Rattle.writer.proofs.Direct.{number_front}
 use Rattle.writer.proofs.Joined.{join, count_join, rows_join, marks_join, size_join, valid_join, deeper*, few}
 use Rattle.writer.proofs.Spots.{sure_inside, element_fits, row_bytes}
 use Rattle.writer.proofs.Checks.{not_true}
@@ -58,7 +58,7 @@ abbrev pub over : Mode → Trees → Reach → Reach
 over m vs e = reach (e.size + length (written* m vs)) (e.mark + length (marks* vs)) (sets e.buffer e.mark (marks* vs))
 
 -- behind a compound, from its last child on
-abbrev pub shut : Mode → (array : Bool) → (start place : ℕ) → Reach → Reach
+abbrev pub shut : Mode → (inside : Mode) → (start place : ℕ) → Reach → Reach
 shut m a s p e = reach (e.size + box_width m a (e.size - s)) e.mark (sets e.buffer p (be 3 (e.size - s)))
 
 none_over : (m : Mode) (e : Reach) → over m none e ≡ e
@@ -69,69 +69,55 @@ none_over elements e = reach_is (omega arith) (omega arith) refl
 -- What is due
 
 -- so many rows, of at most so many levels
-pub record Run (levels left : ℕ) (b : Bool) (c : Spot) (vs : Trees) : Type 0 where
+pub record Run (levels left : ℕ) (m : Mode) (c : Spot) (vs : Trees) : Type 0 where
   pub full : count vs ≡ left
   pub valid : All (λ d v. Valid levels d v) c vs
   pub sure : Sure c
-  pub mode : mode_of c ≡ mode_is b
+  pub mode : mode_of c ≡ m
 
--- The compounds that are open, by their numbers on the stack, and the rows behind each: from e at the end of the innermost, which may be an array, it goes on to z
-pub data Held (st : List ℕ) (z : Reach) : (top levels : ℕ) → (array : Bool) → (words : List ℕ) → Reach → Type 0 where
-  whole : {a : Bool} → length st ≡ 3 * level_most → z.size ≤ most → z.mark ≤ most → z.mark ≤ length z.buffer → Held st z 0 level_most a [] z
-  inside : {top l : ℕ} {a : Bool} {e : Reach} (c : Spot) (vs : Trees) (u : List ℕ) → 3 ≤ top → Run (suc l) (left_on st top) (elements_on st top) c vs → start_on st top ≤ e.size → place_on st top + 3 ≤ length e.buffer
-      → Held st z (top - 3) (suc l) (elements_on st top) u (over (mode_is (elements_on st top)) vs (shut (mode_is (elements_on st top)) a (start_on st top) (place_on st top) e))
+-- the topmost of so many
+abbrev topmost : List Begun → (top : ℕ) → Begun
+topmost st t = get_or st (t - 1) none_begun
+
+-- The compounds that have begun, and the rows behind each: from e at the end of the innermost, which has children of that mode, it goes on to z
+pub data Held (st : List Begun) (z : Reach) : (top levels : ℕ) → (mode : Mode) → (words : List ℕ) → Reach → Type 0 where
+  whole : {a : Mode} → length st ≡ level_most → z.size ≤ most → z.mark ≤ most → z.mark ≤ length z.buffer → Held st z 0 level_most a [] z
+  inside : {top l : ℕ} {a : Mode} {e : Reach} (c : Spot) (vs : Trees) (u : List ℕ) → 1 ≤ top → Run (suc l) (topmost st top).left (topmost st top).mode c vs → (topmost st top).size ≤ e.size → (topmost st top).mark + 3 ≤ length e.buffer
+      → Held st z (top - 1) (suc l) (topmost st top).mode u (over (topmost st top).mode vs (shut (topmost st top).mode a (topmost st top).size (topmost st top).mark e))
       → Held st z top l a (rows* vs ++ u) e
 
 -- from a point on
-pub record Due (w : List ℕ) (z : Reach) (st o : List ℕ) (c : Point) : Type 0 where
+pub record Due (w : List ℕ) (z : Reach) (st : Stack) (o : List ℕ) (c : Point) : Type 0 where
   pub spot : Spot
   pub rest : Trees
   pub levels : ℕ
   pub behind : List ℕ
-  pub run : Run levels c.left c.elements spot rest
+  pub run : Run levels c.left c.mode spot rest
   pub rows_are : drop (2 * c.row) w ≡ rows* rest ++ behind
-  pub held : Held st z c.top levels c.elements behind (over (mode_is c.elements) rest (reach c.size c.mark o))
+  pub held : Held st.begun z st.top levels c.mode behind (over c.mode rest (reach c.size c.mark o))
 
 -- The stack
 
-held_kept : {st r : List ℕ} {z : Reach} {top l : ℕ} {a : Bool} {u : List ℕ} {e : Reach} → length r ≡ length st → ((i : ℕ) → i < top → get_or r i 0 ≡ get_or st i 0) → Held st z top l a u e → Held r z top l a u e
+held_kept : {st r : List Begun} {z : Reach} {top l : ℕ} {a : Mode} {u : List ℕ} {e : Reach} → length r ≡ length st → ((i : ℕ) → i < top → get_or r i none_begun ≡ get_or st i none_begun) → Held st z top l a u e → Held r z top l a u e
 held_kept n k (whole h s f m) = whole (n ∙ h) s f m
 held_kept {top = top} {l = l} {a = a} {e = e} n k (inside c vs u h r s p g) =
-    let x = k (top - 3) (omega arith) in
-    let y = k (top - 3 + 1) (omega arith) in
-    let t = k (top - 3 + 2) (omega arith) in
-    inside {top = top} {l = l} {a = a} {e = e} c vs u h (rw t r) (rw x s) (rw y p) (rw (x, y, t) (held_kept n (λ i j. k i (omega arith)) g))
+    let x = k (top - 1) (omega arith) in
+    inside {top = top} {l = l} {a = a} {e = e} c vs u h (rw x r) (rw x s) (rw x p) (rw x (held_kept n (λ i j. k i (omega arith)) g))
 
 -- sizes and marks only grow, and levels fall as the stack grows
-held_fits : {st : List ℕ} {z : Reach} {top l : ℕ} {a : Bool} {u : List ℕ} {e : Reach} → Held st z top l a u e
-    → (e.size ≤ most) × (e.mark ≤ length e.buffer) × (length e.buffer ≡ length z.buffer) × (top + 3 * l ≡ 3 * level_most) × (length st ≡ 3 * level_most) × (e.mark ≤ most)
+held_fits : {st : List Begun} {z : Reach} {top l : ℕ} {a : Mode} {u : List ℕ} {e : Reach} → Held st z top l a u e
+    → (e.size ≤ most) × (e.mark ≤ length e.buffer) × (length e.buffer ≡ length z.buffer) × (top + l ≡ level_most) × (length st ≡ level_most) × (e.mark ≤ most)
 held_fits (whole h s f m) = (s, m, refl, refl, h, f)
 held_fits (inside c vs u h r s p g) = let a = held_fits g in (omega (arith, a.0), omega (arith, simp length-sets at a.1), simp length-sets at a.2, omega (arith, a.3), a.4, omega (arith, a.5))
 
-due_back : (n : ℕ) (b : Bool) → (due n b / 2 ≡ n) × (eqb (due n b % 2) 1 ≡ b)
-due_back n true = let e : (2 * n + 1) % 2 ≡ 1 = omega arith in (omega arith, rw e)
-due_back n false = let e : (2 * n + 0) % 2 ≡ 0 = omega arith in (omega arith, rw e)
-
-get_d_before : (l xs : List ℕ) (i j : ℕ) → j < i → get_or (sets l i xs) j 0 ≡ get_or l j 0
-get_d_before l [] i j h = refl
-get_d_before l (a ∷ xs) i j h = get_d_before (set l i a) xs (suc i) j (omega arith) ∙ get_or-set_other l i j a 0 (omega arith)
-
-get_d_in : (l xs : List ℕ) (i j : ℕ) → j < length xs → i + length xs ≤ length l → get_or (sets l i xs) (i + j) 0 ≡ get_or xs j 0
-get_d_in l [] i j h k = absurd (omega arith)
-get_d_in l (a ∷ xs) i zero h k = rw add-zero (get_d_before (set l i a) xs (suc i) i (omega arith) ∙ get_or-set_same l i a 0 (omega arith))
-get_d_in l (a ∷ xs) i (suc j) h k = rw (add-suc, ← suc-add) (get_d_in (set l i a) xs (suc i) j (omega arith) (simp length-set (omega arith)))
-
--- one more of them is open
-held_on : (st : List ℕ) (z : Reach) (top l : ℕ) (a : Bool) (u : List ℕ) (e : Reach) (c : Spot) (vs : Trees) (s p n : ℕ) (b : Bool) → top + 3 ≤ length st → Run (suc l) n b c vs → s ≤ e.size → p + 3 ≤ length e.buffer
-    → Held st z top (suc l) b u (over (mode_is b) vs (shut (mode_is b) a s p e)) → Held (sets st top (s ∷ p ∷ due n b ∷ [])) z (top + 3) l a (rows* vs ++ u) e
-held_on st z top l a u e c vs s p n b h r i j g =
-    let t : top + 3 - 3 ≡ top = omega arith in
-    let q = s ∷ p ∷ due n b ∷ [] in
-    let x = rw add-zero at (get_d_in st q top 0 (omega arith) h) in
-    let y = get_d_in st q top 1 (omega arith) h in
-    let d = get_d_in st q top 2 (omega arith) h in
-    inside {top = top + 3} {l = l} {a = a} {e = e} c vs u (omega arith) (rw (t, d, (due_back n b).0, (due_back n b).1) r) (rw (t, x) i) (rw (t, y) j)
-    (rw (t, x, y, d, (due_back n b).1) (held_kept (length-sets st top q) (λ k. get_d_before st q top k) g))
+-- one more of them has begun
+held_on : (st : List Begun) (z : Reach) (top l : ℕ) (a : Mode) (u : List ℕ) (e : Reach) (c : Spot) (vs : Trees) (b : Begun) → top < length st → Run (suc l) b.left b.mode c vs → b.size ≤ e.size → b.mark + 3 ≤ length e.buffer
+    → Held st z top (suc l) b.mode u (over b.mode vs (shut b.mode a b.size b.mark e)) → Held (set st top b) z (top + 1) l a (rows* vs ++ u) e
+held_on st z top l a u e c vs b h r i j g =
+    let t : top + 1 - 1 ≡ top = omega arith in
+    let x : topmost (set st top b) (top + 1) ≡ b = rw t (get_or-set_same st top b none_begun h) in
+    inside {top = top + 1} {l = l} {a = a} {e = e} c vs u (omega arith) (rw x r) (rw x i) (rw x j)
+    (rw (x, t) (held_kept (length-set st top b) (λ k q. get_or-set_other st top k b none_begun (omega arith)) g))
 
 -- Rows: compounds that are not empty, described values, and those without children
 
@@ -150,8 +136,8 @@ record Boxed (k : ℕ) (s : Style) (n : ℕ) : Type 0 where
   pub full : children s n ≡ count_in n
   pub marked : mark_width s n ≡ 3
   pub silent : letters s n ≡ 0
-  pub mode : mode_of (spot_in s n) ≡ mode_is (eqb k 0xf0)
-  pub wide : (m : Mode) (b : ℕ) → length (head_in m s k n b) ≡ box_width m (eqb k 0xf0) b
+  pub mode : mode_of (spot_in s n) ≡ mode_in k
+  pub wide : (m : Mode) (b : ℕ) → length (head_in m s k n b) ≡ box_width m (mode_in k) b
 
 data Class (c : Spot) (k : ℕ) (s : Style) (n : ℕ) (cs : Trees) : Type 0 where
   free : boxes s n ≡ false → mark_width s n ≡ 0 → count cs ≡ (if (eqb k 0) 2 0) → Free c s cs → Class c k s n cs
@@ -164,7 +150,7 @@ leaf c k s n (more v vs) t h b m e = absurd (omega arith)
 
 -- a list, a map or an array has children or none
 module _ (c : Spot) (k : ℕ) (s : Style) (n : ℕ) (cs : Trees) (t : eqb k 0 ≡ false) (h : count cs ≡ children s n) (f : children s n ≡ count_in n) (w : mark_width s n ≡ if (eqb (count_in n) 0) 0 3) (l : letters s n ≡ 0) (e : body_of s none ≡ []) where
-  boxed_or : (mode_of (spot_in s n) ≡ mode_is (eqb k 0xf0)) → ((m : Mode) (b : ℕ) → 0 < count_in n → length (head_in m s k n b) ≡ box_width m (eqb k 0xf0) b) → Class c k s n cs
+  boxed_or : (mode_of (spot_in s n) ≡ mode_in k) → ((m : Mode) (b : ℕ) → 0 < count_in n → length (head_in m s k n b) ≡ box_width m (mode_in k) b) → Class c k s n cs
   boxed_or m g = go (count_in n) refl
     where
       go : (j : ℕ) → count_in n ≡ j → Class c k s n cs
@@ -185,19 +171,19 @@ classify c k (listed e s) n cs i t f r h =
     let q = count_small n r in
     boxed_or c k (listed e s) n cs (between k t).0 h (sym q) (rw q) refl refl (rw (between k t).1) (λ m b x. rw (between k t).1 (go m b (rw q at x)))
   where
-    go : (m : Mode) (b : ℕ) → 0 < n → length (head_in m (listed e s) k n b) ≡ box_width m false b
+    go : (m : Mode) (b : ℕ) → 0 < n → length (head_in m (listed e s) k n b) ≡ box_width m values b
     go values b x = rw (ne_eqb n 0 (λ z. omega arith)) (enclosed_width s k n b)
     go elements b x = item_wide (listed e s) n b
 classify c k (mapped s) n cs i t f r h =
     let q = count_small n (and_left (leb n most) (eqb (n % 2) 0) r) in
     boxed_or c k (mapped s) n cs (between k t).0 h (sym q) (rw q) refl refl (rw (between k t).1) (λ m b x. rw (between k t).1 (go m b))
   where
-    go : (m : Mode) (b : ℕ) → length (head_in m (mapped s) k n b) ≡ box_width m false b
+    go : (m : Mode) (b : ℕ) → length (head_in m (mapped s) k n b) ≡ box_width m values b
     go values b = enclosed_width s k n b
     go elements b = item_wide (mapped s) n b
 classify c k (arrayed s) n cs i t f r h = boxed_or c k (arrayed s) n cs (rw (eqb→eq k 0xf0 t)) h refl refl refl refl (rw (T_true (eqb k 0xf0) t)) (λ m b x. rw (T_true (eqb k 0xf0) t) (go m b))
   where
-    go : (m : Mode) (b : ℕ) → length (head_in m (arrayed s) k n b) ≡ box_width m true b
+    go : (m : Mode) (b : ℕ) → length (head_in m (arrayed s) k n b) ≡ box_width m elements b
     go values b = array_long s k n b
     go elements b = item_wide (arrayed s) n b
 classify any k describing n cs i t f r h = free refl refl (rw (T_true (eqb k 0) t) (h ∙ eqb→eq n 2 r)) pair
@@ -238,13 +224,13 @@ module _ {m : Mode} (c : Spot) (q : mode_of c ≡ m) (p : Sure c) (k n : ℕ) (t
       rw (z, row_marks, i, marks_join cs vs)
 
   box_over : (e : Reach) → Boxed k (style_of k) n → over m (more (node k n t cs) vs) e
-      ≡ over m vs (shut m (eqb k 0xf0) e.size e.mark (over (mode_is (eqb k 0xf0)) cs (reach e.size (e.mark + 3) e.buffer)))
+      ≡ over m vs (shut m (mode_in k) e.size e.mark (over (mode_in k) cs (reach e.size (e.mark + 3) e.buffer)))
   box_over e x =
       let b = length (body_of (style_of k) cs) in
       let i = length_be 3 b in
       let j = length-append (be 3 b) (marks* cs) in
-      let y : length (body_of (style_of k) cs) ≡ length (written* (mode_is (eqb k 0xf0)) cs) = rw x.mode at (ap length (body_is_lem (style_of k) n cs)) in
-      let d : e.size + length (written* (mode_is (eqb k 0xf0)) cs) - e.size ≡ length (body_of (style_of k) cs) = omega (arith, y) in
+      let y : length (body_of (style_of k) cs) ≡ length (written* (mode_in k) cs) = rw x.mode at (ap length (body_is_lem (style_of k) n cs)) in
+      let d : e.size + length (written* (mode_in k) cs) - e.size ≡ length (body_of (style_of k) cs) = omega (arith, y) in
       let f : e.mark + length (be 3 (length (body_of (style_of k) cs)) ++ marks* cs) ≡ e.mark + 3 + length (marks* cs) = omega arith in
       rw (d, row_marks, x.marked, mark_behind e.buffer e.mark b (marks* cs)) (reach_is
       (omega (arith, row_size, x.silent, y, x.wide m b))
@@ -254,14 +240,14 @@ module _ {m : Mode} (c : Spot) (q : mode_of c ≡ m) (p : Sure c) (k n : ℕ) (t
 -- Steps
 
 -- what is left of rows and open compounds
-abbrev pub to_go : (words : List ℕ) → Point → ℕ
-to_go w c = 2 * (length w - 2 * c.row) + c.top
+abbrev pub to_go : (words : List ℕ) → Stack → Point → ℕ
+to_go w st c = 2 * (length w - 2 * c.row) + st.top
 
 -- from c to r: it can be done, what was due is due from there on, and less is left
-pub record Step (w : List ℕ) (z : Reach) (c : Point) (asks : Type 0) (st o : List ℕ) (r : Point) : Type 0 where
+pub record Step (w : List ℕ) (z : Reach) (st : Stack) (c : Point) (asks : Type 0) (t : Stack) (o : List ℕ) (r : Point) : Type 0 where
   pub can : asks
-  pub due : Due w z st o r
-  pub less : to_go w r < to_go w c
+  pub due : Due w z t o r
+  pub less : to_go w t r < to_go w st c
 
 -- two words in front
 pub two : (w : List ℕ) (i k n : ℕ) (u : List ℕ) → drop (2 * i) w ≡ k ∷ n ∷ u → (get_or w (2 * i) 0 ≡ k) × (get_or w (2 * i + 1) 0 ≡ n) × (2 * i + 2 ≤ length w) × (drop (2 * (i + 1)) w ≡ u)
@@ -270,25 +256,20 @@ two w i k n u e =
     let a : (m : ℕ) → get_or w (2 * i + m) 0 ≡ get_or (k ∷ n ∷ u) m 0 = λ m. sym (get_or-drop (2 * i) w m 0) ∙ ap (λ l. get_or l m 0) e in
     (rw add-zero at (a 0), a 1, omega (arith, ap length e, length-drop (2 * i) w), rw (j, ← drop-drop 2 (2 * i) w, e))
 
--- no element is a described value
-pub no_pair : (k : ℕ) → T (member (style_of k)) → ¬ (k ≡ 0)
-unfolding style_of lookup kinds member
-no_pair k t e = rw e at t
-
-module _ (w : List ℕ) (z : Reach) (st o : List ℕ) (c : Point) (s : Spot) (k n : ℕ) (t : List ℕ) (cs vs : Trees) (l : ℕ) (u : List ℕ)
+module _ (w : List ℕ) (z : Reach) (st : Stack) (o : List ℕ) (c : Point) (s : Spot) (k n : ℕ) (t : List ℕ) (cs vs : Trees) (l : ℕ) (u : List ℕ)
     (y : (kind_on w c ≡ k) × (number_on w c ≡ n) × (2 * c.row + 2 ≤ length w) × (drop (2 * (c.row + 1)) w ≡ (rows* cs ++ rows* vs) ++ u))
-    (r : Run (suc l) c.left c.elements s (more (node k n t cs) vs)) (g : Held st z c.top (suc l) c.elements u (over (mode_is c.elements) (more (node k n t cs) vs) (reach c.size c.mark o))) where
+    (r : Run (suc l) c.left c.mode s (more (node k n t cs) vs)) (g : Held st.begun z st.top (suc l) c.mode u (over c.mode (more (node k n t cs) vs) (reach c.size c.mark o))) where
   own : Row s k n t cs
   own = r.valid.0.0
 
   fit : mode_of s ≡ elements → T (member (style_of k))
   fit = element_fits s k r.sure own.fits
 
-  behind_run : Run (suc l) (c.left - 1) c.elements s vs
+  behind_run : Run (suc l) (c.left - 1) c.mode s vs
   unfolding count
   behind_run = record { full = omega (arith, r.full); valid = r.valid.1; sure = r.sure; mode = r.mode }
 
-  onward : Class s k (style_of k) n cs → Due w z (stacked st c k n) o (taken c k n) × (to_go w (taken c k n) < to_go w c)
+  onward : Class s k (style_of k) n cs → Due w z (stacked st c k n) o (taken c k n) × (to_go w (stacked st c k n) (taken c k n) < to_go w st c)
   onward (free b m h f) =
       let v = behind_run in
       rw b (
@@ -314,12 +295,12 @@ module _ (w : List ℕ) (z : Reach) (st o : List ℕ) (c : Point) (s : Spot) (k 
           behind = rows* vs ++ u;
           run = record { full = own.full ∙ x.full; valid = r.valid.0.1; sure = sure_inside (style_of k) k n own.in_range; mode = x.mode };
           rows_are = y.3 ∙ append_assoc (rows* cs) (rows* vs) u;
-          held = held_on st z c.top l (eqb k 0xf0) u _ s vs c.size c.mark (c.left - 1) c.elements (omega arith) behind_run (omega arith) (rw length-sets (omega (arith, simp length-sets at a.1))) h;
+          held = held_on st.begun z st.top l (mode_in k) u _ s vs (opened c) (omega arith) behind_run (omega arith) (rw length-sets (omega (arith, simp length-sets at a.1))) h;
         },
         omega (arith, y.2),
       )
 
-  stepped : length w ≤ 2 * most → c.left ≤ length w → Step w z c (Ready w c) (stacked st c (kind_on w c) (number_on w c)) o (taken c (kind_on w c) (number_on w c))
+  stepped : length w ≤ 2 * most → c.left ≤ length w → Step w z st c (Ready w st c) (stacked st c (kind_on w c) (number_on w c)) o (taken c (kind_on w c) (number_on w c))
   unfolding count
   stepped i v =
       let a = held_fits g in
@@ -327,10 +308,11 @@ module _ (w : List ℕ) (z : Reach) (st o : List ℕ) (c : Point) (s : Spot) (k 
       record {
         can = record {
           here = y.2;
+          known = rw y.0 (T_true (is_kind (style_of k)) own.known);
           row = omega (arith, y.2);
           some = omega (arith, r.full);
-          fits = λ e f. no_pair k (fit (r.mode ∙ rw e)) (sym y.0 ∙ f);
           room = omega arith;
+          long = a.4;
           small = rw (y.0, y.1) (omega (arith, row_size s r.mode r.sure k n t cs vs own));
           mark = omega arith;
           left = omega arith;
@@ -339,54 +321,54 @@ module _ (w : List ℕ) (z : Reach) (st o : List ℕ) (c : Point) (s : Spot) (k 
         less = rw (y.0, y.1) b.1;
       }
 
-module _ {w : List ℕ} {z : Reach} {st o : List ℕ} {c : Point} (d : Due w z st o c) where
-  pub left_small : (c.left ≤ length w) × (c.top ≤ 3 * level_most)
+module _ {w : List ℕ} {z : Reach} {st : Stack} {o : List ℕ} {c : Point} (d : Due w z st o c) where
+  pub left_small : (c.left ≤ length w) × (st.top ≤ level_most) × (length st.begun ≡ level_most)
   left_small =
       let a = held_fits d.held in
-      (omega (arith, d.run.full, few d.rest, ap length d.rows_are, length-append (rows* d.rest) d.behind, length-drop (2 * c.row) w), omega arith)
+      (omega (arith, d.run.full, few d.rest, ap length d.rows_are, length-append (rows* d.rest) d.behind, length-drop (2 * c.row) w), omega arith, a.4)
 
   -- a row is due
-  pub turn : 0 < c.left → length w ≤ 2 * most → Step w z c (Ready w c) (stacked st c (kind_on w c) (number_on w c)) o (taken c (kind_on w c) (number_on w c))
+  pub turn : 0 < c.left → length w ≤ 2 * most → Step w z st c (Ready w st c) (stacked st c (kind_on w c) (number_on w c)) o (taken c (kind_on w c) (number_on w c))
   unfolding count rows*
   turn h i = go d.rest d.levels d.run d.rows_are d.held
     where
-      go : (vs : Trees) (l : ℕ) → Run l c.left c.elements d.spot vs → drop (2 * c.row) w ≡ rows* vs ++ d.behind → Held st z c.top l c.elements d.behind (over (mode_is c.elements) vs (reach c.size c.mark o))
-          → Step w z c (Ready w c) (stacked st c (kind_on w c) (number_on w c)) o (taken c (kind_on w c) (number_on w c))
+      go : (vs : Trees) (l : ℕ) → Run l c.left c.mode d.spot vs → drop (2 * c.row) w ≡ rows* vs ++ d.behind → Held st.begun z st.top l c.mode d.behind (over c.mode vs (reach c.size c.mark o))
+          → Step w z st c (Ready w st c) (stacked st c (kind_on w c) (number_on w c)) o (taken c (kind_on w c) (number_on w c))
       go none l r e g = absurd (omega (arith, r.full))
       go (more (node k n t cs) vs) zero r e g = absurd r.valid.0
       go (more (node k n t cs) vs) (suc l) r e g = stepped w z st o c d.spot k n t cs vs l d.behind (two w c.row k n ((rows* cs ++ rows* vs) ++ d.behind) e) r g i left_small.0
 
   -- none is due
-  spent : c.left ≡ 0 → (drop (2 * c.row) w ≡ d.behind) × Held st z c.top d.levels c.elements d.behind (reach c.size c.mark o)
+  spent : c.left ≡ 0 → (drop (2 * c.row) w ≡ d.behind) × Held st.begun z st.top d.levels c.mode d.behind (reach c.size c.mark o)
   unfolding count rows*
   spent e = go d.rest d.run.full d.rows_are d.held
     where
-      go : (vs : Trees) → count vs ≡ c.left → drop (2 * c.row) w ≡ rows* vs ++ d.behind → Held st z c.top d.levels c.elements d.behind (over (mode_is c.elements) vs (reach c.size c.mark o))
-          → (drop (2 * c.row) w ≡ d.behind) × Held st z c.top d.levels c.elements d.behind (reach c.size c.mark o)
-      go none n r g = (r, rw (none_over (mode_is c.elements) (reach c.size c.mark o)) at g)
+      go : (vs : Trees) → count vs ≡ c.left → drop (2 * c.row) w ≡ rows* vs ++ d.behind → Held st.begun z st.top d.levels c.mode d.behind (over c.mode vs (reach c.size c.mark o))
+          → (drop (2 * c.row) w ≡ d.behind) × Held st.begun z st.top d.levels c.mode d.behind (reach c.size c.mark o)
+      go none n r g = (r, rw (none_over c.mode (reach c.size c.mark o)) at g)
       go (more v vs) n r g = absurd (omega arith)
 
   -- the innermost compound ends
-  pub ended : c.left ≡ 0 → 0 < c.left + c.top → length w ≤ 2 * most → Step w z c (Complete st o c) st (sets o (place_on st c.top) (be 3 (c.size - start_on st c.top))) (closed st c)
-  ended e h n = go refl refl refl (spent e).0 (spent e).1
+  pub ended : c.left ≡ 0 → 0 < st.top → length w ≤ 2 * most → (b : Begun) → b ≡ last_begun st → Step w z st c (Complete b o c) (popped st) (sets o b.mark (be 3 (c.size - b.size))) (closed b c)
+  ended e h n b f = rw f (go refl refl refl (spent e).0 (spent e).1)
     where
-      go : {t l : ℕ} {a : Bool} {u : List ℕ} {x : Reach} → c.top ≡ t → c.elements ≡ a → reach c.size c.mark o ≡ x → drop (2 * c.row) w ≡ u → Held st z t l a u x
-          → Step w z c (Complete st o c) st (sets o (place_on st c.top) (be 3 (c.size - start_on st c.top))) (closed st c)
+      go : {t l : ℕ} {a : Mode} {u : List ℕ} {x : Reach} → st.top ≡ t → c.mode ≡ a → reach c.size c.mark o ≡ x → drop (2 * c.row) w ≡ u → Held st.begun z t l a u x
+          → Step w z st c (Complete (last_begun st) o c) (popped st) (sets o (last_begun st).mark (be 3 (c.size - (last_begun st).size))) (closed (last_begun st) c)
       go t q x r (whole i j f k) = absurd (omega arith)
       go {l = l} t q x r (inside s vs u i j k m g) =
           let a = held_fits g in
           let b = ap (λ y. y.size) x in
           record {
-            can = record { high = omega arith; deep = omega arith; start = rw t (rw (← x) at k); place = rw t (rw (← x) at m); left = rw t (omega (arith, j.full, few vs, ap length r, length-append (rows* vs) u, length-drop (2 * c.row) w)); small = omega arith };
+            can = record { start = rw t (rw (← x) at k); place = rw t (rw (← x) at m); small = omega arith };
             due = record { spot = s; rest = vs; levels = suc l; behind = u; run = rw t j; rows_are = r; held = rw (t, q) (rw (← x) at g) };
             less = omega arith;
           }
 
   -- all is done
-  pub finished : c.left + c.top ≤ 0 → o ≡ z.buffer
-  finished h = go refl (spent (omega arith)).1
+  pub finished : c.left ≡ 0 → st.top ≡ 0 → o ≡ z.buffer
+  finished e h = go refl (spent e).1
     where
-      go : {t l : ℕ} {a : Bool} {u : List ℕ} {x : Reach} → c.top ≡ t → Held st z t l a u x → x.buffer ≡ z.buffer
+      go : {t l : ℕ} {a : Mode} {u : List ℕ} {x : Reach} → st.top ≡ t → Held st.begun z t l a u x → x.buffer ≡ z.buffer
       go t (whole i j f k) = refl
       go t (inside s vs u i j k m g) = absurd (omega arith)
 
@@ -401,100 +383,43 @@ abbrev pub goal : (buffer : List ℕ) → (mark : ℕ) → Tree → Reach
 goal o m v = reach (length (encode v)) (m + length (marks v)) (sets o m (marks v))
 
 -- are due at its first row
-pub begun : (w o : List ℕ) (m : ℕ) (v : Tree) (st : List ℕ) → length st ≡ 3 * level_most → Markable w o m v → Due w (goal o m v) st o (from_start m)
+pub at_start : (w o : List ℕ) (m : ℕ) (v : Tree) (st : Stack) → st ≡ emptied → Markable w o m v → Due w (goal o m v) st o (from_start m)
 unfolding count rows* encode* marks* mode_of
-begun w o m v st h k = record {
+at_start w o m v st h k = rw h (record {
   spot = any;
   rest = more v none;
   levels = level_most;
   behind = [];
   run = record { full = refl; valid = (k.valid, tt); sure = tt; mode = refl };
   rows_are = k.rows_are ∙ sym (append-nil (rows v ++ []) ∙ append-nil (rows v));
-  held = subst (Held st (goal o m v) 0 level_most false []) (sym all) (whole h k.small k.ends (rw length-sets k.room));
-}
+  held = subst (Held emptied.begun (goal o m v) 0 level_most values []) (sym all) (whole refl k.small k.ends (rw length-sets k.room));
+})
   where
     all : over values (more v none) (reach 0 m o) ≡ goal o m v
     all = reach_is (rw append-nil (omega arith)) (rw append-nil) (rw append-nil)
 
 -- In the code's own words
 
--- three stores
-pub three_sets : (st : List ℕ) (top a b d : ℕ) → set (set (set st top a) (top + 1) b) (top + 2) d ≡ sets st top (a ∷ b ∷ d ∷ [])
-three_sets st top a b d =
-    let e : top + 1 ≡ suc top = omega arith in
-    let f : top + 2 ≡ suc (suc top) = omega arith in
-    rw (e, f)
-
-pub bit : (b : Bool) → bool_byte b ≤ 1
-bit true = omega arith
-bit false = omega arith
-
--- the bytes before the children of a compound, in the code's way
-pub box_value : (a : Bool) (b r : ℕ) → r ≡ if (ltb (bool_byte a + b) short_end) 3 9 → bool_byte a + r ≡ box_width values a b
+pub box_small : (m i : Mode) (b r : ℕ) → r ≡ box_width m i b → r ≤ 10
 unfolding box_width
-box_value true b r e = let i : 1 + b ≡ suc b = omega arith in omega (arith, rw i at e)
-box_value false b r e = let i : 0 + b ≡ b = omega arith in omega (arith, rw i at e)
-
-pub box_element : (a : Bool) (b : ℕ) → bool_byte a + 8 ≡ box_width elements a b
-unfolding box_width
-box_element true b = refl
-box_element false b = refl
-
-pub box_small : (m : Mode) (a : Bool) (b r : ℕ) → r ≡ box_width m a b → r ≤ 10
-unfolding box_width
-box_small values true b r e = if_case (λ z. r ≡ suc z → r ≤ 10) (ltb (suc b) short_end) 3 9 (λ t f. omega arith) (λ t f. omega arith) e
-box_small values false b r e = if_case (λ z. r ≡ z → r ≤ 10) (ltb b short_end) 3 9 (λ t f. omega arith) (λ t f. omega arith) e
-box_small elements true b r e = omega arith
-box_small elements false b r e = omega arith
+box_small values elements b r e = if_case (λ z. r ≡ suc z → r ≤ 10) (ltb (suc b) short_end) 3 9 (λ t f. omega arith) (λ t f. omega arith) e
+box_small values values b r e = if_case (λ z. r ≡ z → r ≤ 10) (ltb b short_end) 3 9 (λ t f. omega arith) (λ t f. omega arith) e
+box_small elements elements b r e = omega arith
+box_small elements values b r e = omega arith
 
 pub box_some : (n : ℕ) → ltb 0 n ≡ ltb 0 (if (eqb n 0) 0 3)
 box_some zero = refl
 box_some (suc n) = rw (eqb-suc-zero n, lt-ltb 0 (suc n) (omega arith))
 
-no_box : (s : Style) (n : ℕ) → is_box s ≡ false → false ≡ boxes s n
-unfolding mark_width
-no_box foreign n e = refl
-no_box (numbered s w) n e = refl
-no_box (blob w) n e = refl
-no_box (lettered s) n e = refl
-no_box (listed a s) n e = absurd (subst T e tt)
-no_box (mapped s) n e = absurd (subst T e tt)
-no_box (arrayed s) n e = absurd (subst T e tt)
-no_box describing n e = refl
-
-pub not_boxed : (k n : ℕ) → Rest (kinds_onto is_box kinds []) k → false ≡ boxes (style_of k) n
-not_boxed k n r = no_box (style_of k) n (other is_box refl k r)
-
--- the bytes of a row without a mark, and how many rows are due in its place
-abbrev pub Bare : (elements : Bool) → (kind number size children : ℕ) → Type 0
-Bare e k n y m = (y ≡ bare (mode_is e) k n) × (m ≡ if (eqb k 0) 2 0)
-
-pub item_bare : (e : Bool) (k n y : ℕ) → e ≡ true → ¬ (k ≡ 0) → y ≡ item_width (style_of k) + letters (style_of k) n → Bare e k n y 0
-item_bare e k n y i z f = (f ∙ rw (i, item_wide (style_of k) n 0), rw (ne_eqb k 0 z))
-
-no_number : (k n y : ℕ) → y ≡ length (number_head (style_of k) (k % 256) n) → 0 < y → ¬ (k ≡ 0)
-unfolding style_of lookup kinds number_head
-no_number k n y f h e = let z : y ≡ 0 = rw e at f in omega arith
-
-pub number_bare : (e : Bool) (k n y : ℕ) → e ≡ false → y ≡ length (number_head (style_of k) (k % 256) n) → 0 < y → Bare e k n y 0
-number_bare e k n y i f h =
-    ⊎_elim (λ z. absurd (let a : y ≡ 0 = rw z at f in omega arith))
-    (λ z. (f ∙ rw (i, z.ahead, append-nil) (omega (arith, z.texts)), rw (ne_eqb k 0 (no_number k n y f h)))) (number_front (style_of k) (k % 256) n 0 [])
-
-pub pair_bare : (e : Bool) (k n : ℕ) → e ≡ false → k ≡ 0 → Bare e k n 1 2
-unfolding style_of lookup kinds head letters
-pair_bare e k n i f = rw (i, f) (refl, refl)
-
-pub other_bare : (e : Bool) (k n : ℕ) (s : Style) (y z : ℕ) → e ≡ false → ¬ (k ≡ 0) → s ≡ style_of k → y ≡ length (head s (k % 256) n 0) → z ≡ letters s n → Bare e k n (y + z) 0
-other_bare e k n s y z i h f a b = (rw (i, a, b, f), rw (ne_eqb k 0 h))
-
 bare_small : (m : Mode) (k n : ℕ) → bare m k n ≤ 10 + letters (style_of k) n
 bare_small values k n = omega (arith, head_short k (k % 256) n 0)
 bare_small elements k n = omega (arith, item_wide (style_of k) n 0, item_short k)
 
-module _ (w : List ℕ) (c : Point) (h : Ready w c) (y m : ℕ) (f : Bare c.elements (kind_on w c) (number_on w c) y m) where
-  pub past_asks : m ≤ 2 → (c.row + 1 < 2 ^ 64) × (c.size + y < 2 ^ 64) × (0 < c.left) × (c.left + m < 2 ^ 64)
-  past_asks i = (h.row, omega (arith, h.small, f.0, bare_small (mode_is c.elements) (kind_on w c) (number_on w c)), h.some, omega (arith, h.left))
+module _ (w : List ℕ) (st : Stack) (c : Point) (h : Ready w st c) (y m : ℕ) (f : y ≡ bare c.mode (kind_on w c) (number_on w c)) (g : m ≡ if (eqb (kind_on w c) 0) 2 0) where
+  pub past_asks : (c.row + 1 < 2 ^ 64) × (c.size + y < 2 ^ 64) × (0 < c.left) × (c.left + m < 2 ^ 64)
+  past_asks =
+      let i : m ≤ 2 = rw g (if_case (λ (z : ℕ). z ≤ 2) (eqb (kind_on w c) 0) 2 0 (λ t. omega arith) (λ t. omega arith)) in
+      (h.row, omega (arith, h.small, f, bare_small c.mode (kind_on w c) (number_on w c)), h.some, omega (arith, h.left))
 
-  pub past_taken : (st : List ℕ) (b : Bool) → b ≡ boxes (style_of (kind_on w c)) (number_on w c) → b ≡ false → (r : Point) → r ≡ beyond c y m → (r ≡ taken c (kind_on w c) (number_on w c)) × (st ≡ stacked st c (kind_on w c) (number_on w c))
-  past_taken st b i j r g = rw (sym i ∙ j) (g ∙ rw (f.0, f.1), refl)
+  pub past_taken : (b : Bool) → b ≡ boxes (style_of (kind_on w c)) (number_on w c) → b ≡ false → (r : Point) → r ≡ beyond c y m → (r ≡ taken c (kind_on w c) (number_on w c)) × (st ≡ stacked st c (kind_on w c) (number_on w c))
+  past_taken b i j r e = rw (sym i ∙ j) (e ∙ rw (f, g), refl)

@@ -12,16 +12,16 @@ use lib.ListN.{length, take, drop, length-append, length-drop, take-append-drop}
 use lib.Seq.{sets, length-sets, drop-drop, take_at, drop_at}
 use Rattle.standard.specs.Choose.{if, lookup}
 use Rattle.standard.specs.Bytes.{be, unbe, spell}
-use Rattle.standard.specs.Facts.{if_case}
+use Rattle.standard.specs.Facts.{T_true, if_case}
 use Rattle.standard.specs.Tree.{Tree, node, Trees, none, more, root, count, rows, rows*, text, text*, tall, tall*}
-use Rattle.standard.specs.Kinds.{Style, foreign, numbered, blob, lettered, listed, mapped, arrayed, describing, kinds, style_of, member, count_in, kind_in}
+use Rattle.standard.specs.Kinds.{Style, foreign, numbered, blob, lettered, listed, mapped, arrayed, describing, kinds, style_of, is_kind, member, count_in, kind_in}
 use Rattle.standard.specs.Table.{most, Spot, any, like, allowed, letters, children, spot_in, All, Valid}
 use Rattle.standard.specs.Encode.{short_end, encode, encode*, item, payloads}
 use Rattle.laws.specs.Bounds.{rows*_length}
 use Rattle.laws.specs.Numbers.{length_be, unbe_be}
 use Rattle.laws.specs.Stores.{sets_append}
 use Rattle.laws.specs.Written.{form_some, item_form, well_formed}
-use Rattle.writer.specs.Heads.{enclosure, head, item_head, item_width, body_of, Mode, values, elements, mode_is, mode_of, head_in, written}
+use Rattle.writer.specs.Heads.{enclosure, head, item_head, item_width, body_of, Mode, values, elements, mode_of, head_in, written}
 use Rattle.writer.specs.Marks.{mark_width, marks, marks*}
 use Rattle.writer.specs.Sizing.{Sure, size_in}
 use Rattle.writer.specs.Direct.{is_list_or_map, is_arrayed}
@@ -367,7 +367,7 @@ in_front m {words = words} {text = x} {out = out} {c = c} {k = k} {n = n} {t = t
           bytes = e;
           sure = sure_inside s k n r.in_range;
           size = λ h. rw (w.0, w.1, mk) (⊎_elim (λ e. absurd (rw e at h)) (λ e. e) (mark_tells s n cs r.full (omega (arith, g.small))));
-          ready = record { row = w.2; room = omega (arith, ap length o, all_room g); marked = omega (arith, mx.2 g.within); texts = omega (arith, tx.2 g.here) };
+          ready = record { known = rw w.0 (T_true (is_kind s) r.known); row = w.2; room = omega (arith, ap length o, all_room g); marked = omega (arith, mx.2 g.within); texts = omega (arith, tx.2 g.here) };
           stepped = λ a r h. (h.bytes ∙ rw o, h.place ∙ same_place refl (rw i) (rw o) (rw j));
         }
 
@@ -505,15 +505,15 @@ module _ {words text goal : List ℕ} {stop : Cursor} {end : ℕ} {boxed : Bool}
     value_on {v = v} {us = us} {us' = us'} {vs = vs} {r = r} d n = going_on d n last (lasts_of last r us' (omega (arith, d.lasts, ap (λ z. z.at) n.place, length-append (encode* us') (payloads vs), length-append (encode* (more v us)) (payloads vs))))
 
   module _ {last : ℕ} {out : List ℕ} {c : Cursor} where
-    pub whole_turn : Going words text goal stop end boxed last out c → c.at < end → (b : Bool) → b ≡ leb last c.at → WholeTurn words text goal stop end boxed (mode_is b) last out c
+    whole_at : Going words text goal stop end boxed last out c → c.at < end → (b : Bool) → b ≡ leb last c.at → WholeTurn words text goal stop end boxed (if b elements values) last out c
     unfolding encode* payloads
-    whole_turn (going {us = none} d) h false e = absurd (omega (arith, d.lasts, leb-false last c.at (sym e)))
-    whole_turn (going {kind = k} {us = more v us} d) h false e =
+    whole_at (going {us = none} d) h false e = absurd (omega (arith, d.lasts, leb-false last c.at (sym e)))
+    whole_at (going {kind = k} {us = more v us} d) h false e =
         let o = value_off d.pending in
         record { kind = k; tree = v; one = one d.pending o; next = λ a r j. value_on d (next_of d.pending o.whole a r j.bytes j.place); less = λ a r j. done_less values v j }
-    whole_turn (going {us = more v us} d) h true e = absurd (omega (arith, d.lasts, value_long d.pending, leb-true last c.at (sym e)))
-    whole_turn (going {us = none} {vs = none} d) h true e = absurd (omega (arith, d.ends))
-    whole_turn (going {kind = k} {us = none} {vs = more v vs} d) h true e =
+    whole_at (going {us = more v us} d) h true e = absurd (omega (arith, d.lasts, value_long d.pending, leb-true last c.at (sym e)))
+    whole_at (going {us = none} {vs = none} d) h true e = absurd (omega (arith, d.ends))
+    whole_at (going {kind = k} {us = none} {vs = more v vs} d) h true e =
         let o = element_off d.pending in
         record {
           kind = k;
@@ -523,9 +523,12 @@ module _ {words text goal : List ℕ} {stop : Cursor} {end : ℕ} {boxed : Bool}
           less = λ a r j. done_less elements v j;
         }
 
+    pub whole_turn : Going words text goal stop end boxed last out c → c.at < end → (m : Mode) → m ≡ if (leb last c.at) elements values → WholeTurn words text goal stop end boxed m last out c
+    whole_turn g h m e = rw e (whole_at g h (leb last c.at) refl)
+
     -- in either case there is a row
     pub row_there : Going words text goal stop end boxed last out c → c.at < end → 2 * c.row + 2 ≤ length words
-    row_there g h = let o = whole_turn g h (leb last c.at) refl in (one_ready (mode_is (leb last c.at)) o.tree o.one).row
+    row_there g h = let o = whole_turn g h _ refl in (one_ready _ o.tree o.one).row
 
     value_turn : Going words text goal stop end boxed last out c → c.at < last → is_arrayed (style_of (kind_at words c)) ≡ false → ValueTurn words text goal stop end boxed last out c
     unfolding one

@@ -90,12 +90,11 @@ taken c k n = if (boxes (style_of k) n) (entered c k (count_in n)) (beyond c (ba
 abbrev pub stacked : Stack → Point → (kind number : ℕ) → Stack
 stacked s c k n = if (boxes (style_of k) n) (pushed s (opened c)) s
 
--- A row of a kind is due, it is no described value among elements, it has room on the stack and its numbers fit 32 bits there, and its sums fit
+-- A row of a kind is due, it has room on the stack and its numbers fit 32 bits there, and its sums fit
 pub record Ready (words : List ℕ) (s : Stack) (c : Point) : Type 0 where
   pub here : 2 * c.row + 2 ≤ length words
   pub known : is_kind (style_of (kind_on words c)) ≡ true
   pub some : 0 < c.left
-  pub fits : c.mode ≡ elements → ¬ (kind_on words c ≡ 0)
   pub room : s.top < level_most
   pub long : length s.begun ≡ level_most
   pub small : c.size + letters (style_of (kind_on words c)) (number_on words c) ≤ most

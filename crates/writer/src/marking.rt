@@ -2,15 +2,17 @@
 //
 // One pass over the rows. A list, a map or an array that is not empty goes onto a stack. When its last child is taken, the bytes since are
 // those of its children. The values below a described one are due in its place, so it needs no stack.
-ghost use Rattle.std.specs.Prelude.{◌≡◌, ℕ, ◌+◌, ◌-◌, ◌*◌, ◌%◌, ◌^◌, ◌≤◌, ◌<◌, length};
+ghost use Rattle.std.specs.Prelude.{◌≡◌, ℕ, ◌+◌, ◌-◌, ◌*◌, ◌%◌, ◌^◌, ◌≤◌, ◌<◌, eqb, length};
 ghost use Rattle.std.proofs.lemmas.List.Edits.{sets};
+ghost use Rattle.standard.specs.Choose.{if};
 ghost use Rattle.standard.specs.Bytes.{be};
 ghost use Rattle.standard.specs.Tree.{Tree};
 ghost use Rattle.standard.specs.Kinds.{style_of};
 ghost use Rattle.standard.specs.InCode.{kind_is};
 ghost use Rattle.standard.specs.Outcomes.{level_most};
+ghost use Rattle.writer.specs.Heads.{head_in};
 ghost use Rattle.writer.specs.Marks.{marks};
-ghost use Rattle.writer.specs.Marking.{emptied, pushed, Popped, opened, boxes, box_width, kind_on, number_on, from_start, beyond, entered, closed, taken, stacked, Ready, Complete, Markable, Tabled};
+ghost use Rattle.writer.specs.Marking.{emptied, pushed, Popped, opened, boxes, box_width, kind_on, number_on, from_start, beyond, mode_in, entered, closed, taken, stacked, Ready, Complete, Markable, Tabled};
 
 use crate::head::Mode;
 use crate::row::Row;
@@ -114,6 +116,7 @@ impl Point {
 }
 
 // Is a row a list, a map or an array that is not empty.
+#[tactic(auto, unfolding(crate::specs::Marks::mark_width, standard::specs::Kinds::style_of, standard::specs::Kinds::kinds, standard::specs::Choose::lookup, standard::specs::Kinds::count_in), using(crate::proofs::Onward::box_some))]
 fn is_boxed(kind: Kind, number: u64) -> bool
     ensures { result ≡ boxes (style_of (kind_is kind)) number }
 {
@@ -126,6 +129,7 @@ fn is_boxed(kind: Kind, number: u64) -> bool
 
 // The bytes before the children of a compound, by theirs and by what they are. Before the elements of an array stands their code, which its
 // size counts.
+#[tactic(auto, unfolding(crate::specs::Marking::box_width))]
 fn box_width(mode: Mode, inside: Mode, children: usize) -> usize
     requires { children + 1 < 2 ^ 64 }
     ensures { result ≡ box_width mode inside children }
@@ -135,6 +139,16 @@ fn box_width(mode: Mode, inside: Mode, children: usize) -> usize
         (Mode::Values, Mode::Elements) => head::array_width(children),
         (Mode::Elements, Mode::Values) => head::ITEM_WIDTH,
         (Mode::Elements, Mode::Elements) => head::ITEM_ARRAY_WIDTH,
+    }
+}
+
+// What the children of a list, a map or an array are.
+fn mode_in(kind: Kind) -> Mode
+    ensures { result ≡ mode_in (kind_is kind) }
+{
+    match kind {
+        Kind::Array => Mode::Elements,
+        _ => Mode::Values,
     }
 }
 
@@ -154,10 +168,7 @@ fn open(stack: &mut Stack, c: Point, kind: Kind, count: usize) -> Point
         size: c.size,
         mark: c.mark + head::MARK_WIDTH,
         left: count,
-        mode: match kind {
-            Kind::Array => Mode::Elements,
-            _ => Mode::Values,
-        },
+        mode: mode_in(kind),
     }
 }
 
@@ -177,6 +188,27 @@ fn close(begun: Begun, out: &mut [u8], c: Point) -> Point
     }
 }
 
+// How many bytes stand before the text of a row without children.
+#[tactic(auto, using(crate::proofs::Bodies::item_wide))]
+fn width_in(mode: Mode, kind: Kind, number: u64) -> usize
+    ensures { result ≡ length (head_in mode (style_of (kind_is kind)) (kind_is kind % 256) number 0) }
+{
+    match mode {
+        Mode::Values => head::head_width(kind, number),
+        Mode::Elements => head::item_width(kind),
+    }
+}
+
+// How many rows are due in the place of one without a mark: the two values in a described one.
+fn due_in_place(kind: Kind) -> usize
+    ensures { result ≡ if (eqb (kind_is kind) 0) 2 0 }
+{
+    match kind {
+        Kind::Described => 2,
+        _ => 0,
+    }
+}
+
 // The next row.
 fn take_row(words: &[u64], stack: &mut Stack, c: Point) -> Point
     requires { Ready words.now stack.old c }
@@ -188,13 +220,7 @@ fn take_row(words: &[u64], stack: &mut Stack, c: Point) -> Point
         return open(stack, c, kind, kind::count_of_elements(number) as usize);
     }
     let letters = kind.style().letters(number) as usize;
-    match c.mode {
-        Mode::Values => {
-            let children = if kind == Kind::Described { 2 } else { 0 };
-            c.past(head::head_width(kind, number) + letters, children)
-        }
-        Mode::Elements => c.past(head::item_width(kind) + letters, 0),
-    }
+    c.past(width_in(c.mode, kind, number) + letters, due_in_place(kind))
 }
 
 // Puts the marks of a whole table into a buffer, from `mark` on.
