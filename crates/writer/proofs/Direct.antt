@@ -1,21 +1,25 @@
 -- Rows that are written by their kind at once: the lengths of what is stored, and the bytes that are all of a row.
-use Prim.Native.Nat.{ℕ, suc, ◌+◌, ◌≤◌}
+use Prim.Native.Nat.{ℕ, suc, ◌+◌, ◌%◌, ◌≤◌}
 use mathlib.Core.Path.{◌≡◌, refl, sym, subst}
 use mathlib.Core.List.{List, [], ◌∷◌, ◌++◌, append-nil}
-use mathlib.Core.Bool.{Bool, true, false}
+use mathlib.Core.Bool.{Bool, true, false, false≢true}
+use mathlib.Core.Logic.{◌⊎◌, ⊎_elim}
 use native.Mathlib.Omega.{arith}
 use lib.Dec.{T, eqb, ltb}
 use lib.ListN.{length, take, drop, set, length-append, length-drop}
 use lib.Seq.{sets, length-take-le}
-use Rattle.standard.specs.Choose.{if}
+use Rattle.standard.specs.Choose.{if, lookup}
 use Rattle.standard.specs.Bytes.{be}
-use Rattle.standard.specs.Kinds.{unsigned, Style, foreign, numbered, blob, lettered, listed, mapped, arrayed, describing}
+use Rattle.standard.specs.Kinds.{unsigned, Style, foreign, numbered, blob, lettered, listed, mapped, arrayed, describing, kinds, style_of}
 use Rattle.standard.specs.Table.{letters}
+use Rattle.standard.specs.InCode.{kind_is}
+use Rattle.standard.specs.declared.kind.Kind.{Kind}
+use Rattle.standard.specs.declared.kind.Kind.TheVariants as kind
 use Rattle.standard.specs.Encode.{shortest}
 use Rattle.laws.specs.Numbers.{length_be}
 use Rattle.writer.specs.Heads.{head}
 use Rattle.writer.specs.Marks.{mark_width}
-use Rattle.writer.specs.Direct.{is_number, is_lettered, is_list_or_map, Put}
+use Rattle.writer.specs.Direct.{is_number, is_lettered, is_list_or_map, is_arrayed, Put}
 use Rattle.laws.specs.Stores.{put_on}
 
 -- A code and a number behind it
@@ -103,3 +107,54 @@ blob_sole s w k n b x e = rw e (record { ahead = refl; texts = refl; mark = refl
 pub described_sole : (s : Style) (n b : ℕ) (x : List ℕ) → s ≡ describing → Sole s 0 n b x (0 ∷ []) 0 0
 unfolding head letters mark_width
 described_sole s n b x e = rw e (record { ahead = refl; texts = refl; mark = refl })
+
+-- Which kinds the arms of a match are
+
+pub described_kind : (k : Kind) (n b : ℕ) (x : List ℕ) → k ≡ kind.Described → Sole (style_of (kind_is k)) (kind_is k % 256) n b x (0 ∷ []) 0 0
+unfolding style_of lookup kinds
+described_kind k n b x e = rw e (described_sole describing n b x refl)
+
+pub lettered_kind : (k : Kind) → (k ≡ kind.Binary) ⊎ (k ≡ kind.String) ⊎ (k ≡ kind.Symbol) → is_lettered (style_of (kind_is k)) ≡ true
+unfolding style_of lookup kinds
+lettered_kind k h = ⊎_elim (λ e. rw e) (λ i. ⊎_elim (λ e. rw e) (λ e. rw e) i) h
+
+pub blob_kind : (k : Kind) (n b : ℕ) (x : List ℕ) → (k ≡ kind.Decimal128) ⊎ (k ≡ kind.Uuid) → Sole (style_of (kind_is k)) (kind_is k % 256) n b x (kind_is k ∷ take 16 x) 16 0
+unfolding style_of lookup kinds
+blob_kind k n b x h = ⊎_elim (λ e. rw e (blob_sole (blob 16) 16 0x94 n b x refl)) (λ e. rw e (blob_sole (blob 16) 16 0x98 n b x refl)) h
+
+pub compound_kind : (k : Kind) → (k ≡ kind.List) ⊎ (k ≡ kind.Map) → is_list_or_map (style_of (kind_is k)) ≡ true
+unfolding style_of lookup kinds
+compound_kind k h = ⊎_elim (λ e. rw e) (λ e. rw e) h
+
+pub array_kind : (k : Kind) → k ≡ kind.Array → (w : ℕ) → kind_is k ≡ w → is_arrayed (style_of w) ≡ false → ⊥
+unfolding style_of lookup kinds
+array_kind k e w i h = false≢true (sym (rw (← i, e) at h))
+
+-- every other one is a number
+pub rest_number : (k : Kind) → ¬ (k ≡ kind.Described) × ¬ (k ≡ kind.Binary) × ¬ (k ≡ kind.String) × ¬ (k ≡ kind.Symbol) × ¬ (k ≡ kind.Decimal128) × ¬ (k ≡ kind.Uuid) × ¬ (k ≡ kind.List) × ¬ (k ≡ kind.Map) × ¬ (k ≡ kind.Array) → is_number (style_of (kind_is k)) ≡ true
+unfolding style_of lookup kinds
+rest_number kind.Described h = absurd (h.0 refl)
+rest_number kind.Null h = refl
+rest_number kind.Ubyte h = refl
+rest_number kind.Byte h = refl
+rest_number kind.Boolean h = refl
+rest_number kind.Ushort h = refl
+rest_number kind.Short h = refl
+rest_number kind.Uint h = refl
+rest_number kind.Int h = refl
+rest_number kind.Float h = refl
+rest_number kind.Char h = refl
+rest_number kind.Decimal32 h = refl
+rest_number kind.Ulong h = refl
+rest_number kind.Long h = refl
+rest_number kind.Double h = refl
+rest_number kind.Timestamp h = refl
+rest_number kind.Decimal64 h = refl
+rest_number kind.Decimal128 h = absurd (h.4 refl)
+rest_number kind.Uuid h = absurd (h.5 refl)
+rest_number kind.Binary h = absurd (h.1 refl)
+rest_number kind.String h = absurd (h.2 refl)
+rest_number kind.Symbol h = absurd (h.3 refl)
+rest_number kind.List h = absurd (h.6 refl)
+rest_number kind.Map h = absurd (h.7 refl)
+rest_number kind.Array h = absurd (h.8 refl)

@@ -91,6 +91,7 @@ fn body_at(out: &[u8], mark: usize, count: u64) -> usize
 }
 
 // The head of a list or a map whose mark is at `mark`.
+#[tactic(auto, unfolding(crate::specs::Heads::head, standard::specs::Kinds::style_of, standard::specs::Kinds::kinds, standard::specs::Choose::lookup))]
 fn put_compound(out: &mut [u8], at: usize, kind: Kind, count: u64, mark: usize) -> usize
     requires { (is_list_or_map (style_of (kind_is kind)) ≡ true) × (mark + if (eqb count 0) 0 3 ≤ length out.old)
         × (at + length (head (style_of (kind_is kind)) (kind_is kind % 256) count (unbe (take (if (eqb count 0) 0 3) (drop mark out.old)))) ≤ length out.old) }

@@ -11,7 +11,7 @@ use Rattle.writer.specs.Filling.{beyond, Elements, Going}
 use Rattle.writer.proofs.filling.fill_plain.Given as goal
 
 abbrev pub invariant-loop-c : goal.invariant-loop-c
-invariant-loop-c l = (length l.out ≡ length l.initial.out) × ((k : ℕ) (vs : Trees) → Elements l.words l.text l.initial.out l.end l.initial.c k vs → k < 0xd0 → Going l.words l.text (sets l.initial.out l.initial.c.at (encode* none ++ payloads vs)) (beyond l.initial.c none vs) l.end false l.c.at l.out l.c)
+invariant-loop-c l = (length l.out ≡ length l.initial.out) × ((k : ℕ) (vs : Trees) → Elements l.table.words.now l.table.text.now l.initial.out l.end l.initial.c k vs → k < 0xd0 → Going l.table.words.now l.table.text.now (sets l.initial.out l.initial.c.at (encode* none ++ payloads vs)) (beyond l.initial.c none vs) l.end false l.c.at l.out l.c)
 
 abbrev pub decreases-loop-c : goal.decreases-loop-c
-decreases-loop-c l = length l.words - 2 * l.c.row
+decreases-loop-c l = length l.table.words.now - 2 * l.c.row
