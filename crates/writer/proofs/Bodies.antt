@@ -2,7 +2,7 @@
 use Prim.Native.Nat.{ℕ, suc, ◌+◌, ◌%◌, ◌≤◌, ◌<◌}
 use mathlib.Core.Path.{◌≡◌, refl, sym, ap, ◌∙◌}
 use mathlib.Core.List.{List, [], ◌∷◌, ◌++◌, append_assoc, append-nil}
-use mathlib.Core.Bool.{Bool, true, false, not, ◌||◌}
+use mathlib.Core.Bool.{Bool, true, false, not, ◌||◌, false≢true}
 use native.Mathlib.Omega.{arith}
 use lib.Dec.{T, eqb, leb, ltb, eqb→eq, ltb→lt, leb→le, lit≤}
 use lib.ListN.{length, length-append}
@@ -16,6 +16,7 @@ use Rattle.standard.specs.Facts.{and_right}
 use Rattle.laws.specs.Numbers.{length_be}
 use Rattle.laws.specs.Written.{no_children, no_text}
 use Rattle.writer.specs.Heads.{enclosure, head, item_head, item_width, body_of}
+use Rattle.writer.specs.Direct.{is_list_or_map, is_arrayed}
 use Rattle.writer.proofs.Tabled.{all_kinds, of_kind}
 
 enclosed_head : (s k n : ℕ) (b : List ℕ) → enclosed s k n b ≡ enclosure s k n (length b) ++ b
@@ -190,6 +191,21 @@ item_narrow (listed e s) t = omega arith
 item_narrow (mapped s) t = omega arith
 item_narrow (arrayed s) t = omega arith
 item_narrow describing t = omega arith
+
+-- those of scalars at most eight
+scalar_narrow : (s : Style) → is_list_or_map s ≡ false → is_arrayed s ≡ false → T (narrow s) → item_width s ≤ 8
+unfolding narrow item_width
+scalar_narrow foreign e f t = omega arith
+scalar_narrow (numbered s w) e f t = leb→le w 8 t
+scalar_narrow (blob w) e f t = omega arith
+scalar_narrow (lettered s) e f t = omega arith
+scalar_narrow (listed a s) e f t = absurd (false≢true (sym e))
+scalar_narrow (mapped s) e f t = absurd (false≢true (sym e))
+scalar_narrow (arrayed s) e f t = absurd (false≢true (sym f))
+scalar_narrow describing e f t = omega arith
+
+pub scalar_short : (k : ℕ) → is_list_or_map (style_of k) ≡ false → is_arrayed (style_of k) ≡ false → item_width (style_of k) ≤ 8
+scalar_short k e f = scalar_narrow (style_of k) e f (style_narrow k)
 
 pub item_short : (k : ℕ) → item_width (style_of k) ≤ 9
 item_short k = item_narrow (style_of k) (style_narrow k)

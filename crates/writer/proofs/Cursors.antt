@@ -1,16 +1,17 @@
 -- One row at a cursor: what reading its mark asks, and what the stores of its parts come to.
 use Prim.Native.Nat.{ℕ, suc, ◌+◌, ◌%◌, ◌^◌, ◌≤◌, ◌<◌}
-use mathlib.Core.Path.{◌≡◌, refl, sym, ap, ◌∙◌}
+use mathlib.Core.Path.{◌≡◌, refl, sym, ap, ◌∙◌, subst}
 use mathlib.Core.List.{List, [], ◌∷◌, ◌++◌}
 use mathlib.Core.Bool.{true, false}
+use native.Mathlib.Nat.{mod-eq_of_lt}
 use native.Mathlib.Omega.{arith}
 use lib.Dec.{eqb}
 use lib.ListN.{length, take, drop, length-append, length-drop}
 use lib.Seq.{sets, length-take-le}
 use Rattle.standard.specs.Choose.{if, lookup}
 use Rattle.standard.specs.Bytes.{be, unbe}
-use Rattle.standard.specs.Facts.{if_case}
-use Rattle.standard.specs.Kinds.{Style, arrayed, kinds, style_of, count_in, kind_in}
+use Rattle.standard.specs.Facts.{true_T, if_case}
+use Rattle.standard.specs.Kinds.{Style, arrayed, kinds, style_of, is_kind, count_in, kind_in}
 use Rattle.standard.specs.Table.{letters}
 use Rattle.laws.specs.Numbers.{length_be}
 use Rattle.laws.specs.Stores.{put_on}
@@ -19,6 +20,7 @@ use Rattle.writer.specs.Marks.{mark_width}
 use Rattle.writer.specs.Direct.{is_list_or_map, is_arrayed, Put}
 use Rattle.writer.specs.Filling.{behind, kind_at, number_at, letters_at, mark_at, own_at, Ready, Stepped}
 use Rattle.writer.specs.declared.filling.Cursor.{Cursor}
+use Rattle.writer.proofs.Bodies.{kind_small}
 use Rattle.writer.proofs.Direct.{Sole}
 use Rattle.writer.proofs.Rows.{row_of}
 
@@ -104,10 +106,10 @@ nested_parts words text out c h q b i w j =
 
 -- Arrays, as values or as elements: their head ends in the code of their elements
 
-pub array_parts : (m : Mode) (words text out : List ℕ) (c : Cursor) → Ready m words text out c → kind_at words c ≡ 0xf0 → (b : ℕ) → b ≡ unbe (take (mark_at words c) (drop c.mark out)) → (w : ℕ) → w ≡ if (eqb (count_in (number_at words c)) 0) 0 3
+array_row : (m : Mode) (words text out : List ℕ) (c : Cursor) → Ready m words text out c → kind_at words c ≡ 0xf0 → (b : ℕ) → b ≡ unbe (take (mark_at words c) (drop c.mark out)) → (w : ℕ) → w ≡ if (eqb (count_in (number_at words c)) 0) 0 3
     → let f = array_fields m (count_in (number_at words c)) (1 + b) in Parts m words text out c (f ++ (kind_in (number_at words c) % 256 ∷ [])) (length f + 1) 0 w
 unfolding style_of lookup kinds letters head item_head
-array_parts m words text out c h k b i w j =
+array_row m words text out c h k b i w j =
     let n = number_at words c in
     let e = array_mark (kind_at words c) n k w j in
     parts m words text out c h (style_of (kind_at words c)) refl w e 0 (rw k) b _ _ (rw e i) (rw k (front m)) (length-append (array_fields m (count_in n) (1 + b)) (kind_in n % 256 ∷ []))
@@ -115,6 +117,13 @@ array_parts m words text out c h k b i w j =
     front : (m : Mode) → array_fields m (count_in (number_at words c)) (1 + b) ++ (kind_in (number_at words c) % 256 ∷ []) ≡ head_in m (arrayed 0xe0) 0xf0 (number_at words c) b
     front values = let z : 1 + b ≡ suc b = omega arith in rw z
     front elements = let z : 1 + b ≡ suc b = omega arith in rw z
+
+-- in the code's own words: the number of elements, the width of the mark and the code of the elements
+pub array_parts : (m : Mode) (words text out : List ℕ) (c : Cursor) → Ready m words text out c → kind_at words c ≡ 0xf0 → is_kind (style_of (kind_in (number_at words c))) ≡ true → (b : ℕ) → b ≡ unbe (take (mark_at words c) (drop c.mark out))
+    → (n : ℕ) → n ≡ count_in (number_at words c) → (w : ℕ) → w ≡ if (eqb n 0) 0 3 → (t : ℕ) → t ≡ kind_in (number_at words c) → let f = array_fields m n (1 + b) in Parts m words text out c (f ++ (t ∷ [])) (length f + 1) 0 w
+array_parts m words text out c h k q b i n e w j t u =
+    let z : t % 256 ≡ t = mod-eq_of_lt (rw u (kind_small (kind_in (number_at words c)) (true_T _ q))) in
+    subst (λ x. let f = array_fields m n (1 + b) in Parts m words text out c (f ++ (x ∷ [])) (length f + 1) 0 w) z (rw (e, u) (array_row m words text out c h k b i w (rw e at j)))
 
 -- A front that is all of a row's bytes
 module _ {words text out : List ℕ} {c : Cursor} (h : Ready values words text out c) {k n l w : ℕ} {f : List ℕ} (i : k ≡ kind_at words c) (j : n ≡ number_at words c)

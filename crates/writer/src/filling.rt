@@ -184,6 +184,14 @@ fn put_array_fields(out: &mut [u8], at: usize, mode: Mode, count: u64, body: u64
     }
 }
 
+// The kind that an array's number tells of its elements.
+fn told_kind(number: u64) -> Kind
+    requires { is_kind (style_of (kind_in number)) ≡ true }
+    ensures { kind_is result ≡ kind_in number }
+{
+    kind::kind_of_elements(number).unwrap()
+}
+
 // The head of an array whose elements take so many bytes: it ends in their code.
 fn put_array(table: Table, out: &mut [u8], mode: Mode, elements: usize, c: Cursor) -> Cursor
     requires { Ready mode table.words.now table.text.now out.old c × (kind_at table.words.now c ≡ 0xf0)
@@ -193,10 +201,8 @@ fn put_array(table: Table, out: &mut [u8], mode: Mode, elements: usize, c: Curso
 {
     let number = table.words[2 * c.row + 1];
     let count = kind::count_of_elements(number);
-    let told = kind::kind_of_elements(number).unwrap();
-    let at = c.at;
-    let size = put_array_fields(out, at, mode, count, 1 + elements as u64);
-    out[at + size] = head::wide_code(told);
+    let size = put_array_fields(out, c.at, mode, count, 1 + elements as u64);
+    out[c.at + size] = head::wide_code(told_kind(number));
     c.behind(size + 1, 0, mark_width(count))
 }
 
@@ -255,7 +261,7 @@ fn fill_array(table: Table, out: &mut [u8], mode: Mode, c: Cursor) -> Cursor
     ensures { (k : ℕ) (v : Tree) → One table.entry.words.now table.entry.text.now out.old mode c k v → Done out.old mode c v out.new result }
 {
     let number = table.words[2 * c.row + 1];
-    let told = kind::kind_of_elements(number).unwrap();
+    let told = told_kind(number);
     let elements = body_at(out, c.mark, kind::count_of_elements(number));
     let first = put_array(table, out, mode, elements, c);
     fill_items(table, out, told, first.at + elements, first)

@@ -8,7 +8,7 @@ pub put_fields-requires : goal.put_fields-requires
 put_fields-requires c = let o = nested_parts _ _ _ _ c.requires.0 c.requires.1 _ c.requires.2 _ refl in (omega (arith, c.requires.3), omega (arith, o.size, o.ready.room))
 
 pub behind-requires : goal.behind-requires
-behind-requires c = let o = part_sums (nested_parts _ _ _ _ c.requires.0 c.requires.1 _ c.requires.2 _ c.count_mark.ensures) c.well_formed.0.0 c.well_formed.1.0.0 c.well_formed.1.1.0.0 in (o.0, o.1, omega (arith, o.2), o.3)
+behind-requires c = let o = part_sums (nested_parts _ _ _ _ c.requires.0 c.requires.1 _ c.requires.2 _ c.mark_width.ensures) (omega arith) (omega arith) (omega arith) in (o.0, o.1, omega (arith, o.2), o.3)
 
 pub returns : goal.returns
-returns c = part_put (nested_parts _ _ _ _ c.requires.0 c.requires.1 _ c.requires.2 _ c.count_mark.ensures) _ _ c.put_fields.ensures c.behind.ensures
+returns c = part_put (nested_parts _ _ _ _ c.requires.0 c.requires.1 _ c.requires.2 _ c.mark_width.ensures) _ _ c.put_fields.ensures c.behind.ensures
