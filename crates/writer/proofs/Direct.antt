@@ -1,11 +1,11 @@
 -- Rows that are written by their kind at once: the lengths of what is stored, and the bytes that are all of a row.
-use Prim.Native.Nat.{ℕ, suc, ◌+◌, ◌%◌, ◌≤◌}
+use Prim.Native.Nat.{ℕ, suc, ◌+◌, ◌%◌, ◌≤◌, ◌<◌}
 use mathlib.Core.Path.{◌≡◌, refl, sym, subst}
 use mathlib.Core.List.{List, [], ◌∷◌, ◌++◌, append-nil}
 use mathlib.Core.Bool.{Bool, true, false, false≢true}
 use mathlib.Core.Logic.{◌⊎◌, ⊎_elim}
 use native.Mathlib.Omega.{arith}
-use lib.Dec.{T, eqb, ltb}
+use lib.Dec.{T, eqb, ltb, lit≤, lit<}
 use lib.ListN.{length, take, drop, set, length-append, length-drop}
 use lib.Seq.{sets, length-take-le}
 use Rattle.standard.specs.Choose.{if, lookup}
@@ -158,3 +158,34 @@ rest_number kind.Symbol h = absurd (h.3 refl)
 rest_number kind.List h = absurd (h.6 refl)
 rest_number kind.Map h = absurd (h.7 refl)
 rest_number kind.Array h = absurd (h.8 refl)
+
+-- of the kinds that arrays may hold, lists, maps and arrays are last
+pub nested_kind : (k : Kind) → (k ≡ kind.List) ⊎ (k ≡ kind.Map) ⊎ (k ≡ kind.Array) → 0xd0 ≤ kind_is k
+nested_kind k h = ⊎_elim (λ e. rw e (lit≤ tt)) (λ i. ⊎_elim (λ e. rw e (lit≤ tt)) (λ e. rw e (lit≤ tt)) i) h
+
+pub plain_kind : (k : Kind) → ¬ (k ≡ kind.List) × ¬ (k ≡ kind.Map) × ¬ (k ≡ kind.Array) → kind_is k < 0xd0
+plain_kind kind.Described h = lit< tt
+plain_kind kind.Null h = lit< tt
+plain_kind kind.Ubyte h = lit< tt
+plain_kind kind.Byte h = lit< tt
+plain_kind kind.Boolean h = lit< tt
+plain_kind kind.Ushort h = lit< tt
+plain_kind kind.Short h = lit< tt
+plain_kind kind.Uint h = lit< tt
+plain_kind kind.Int h = lit< tt
+plain_kind kind.Float h = lit< tt
+plain_kind kind.Char h = lit< tt
+plain_kind kind.Decimal32 h = lit< tt
+plain_kind kind.Ulong h = lit< tt
+plain_kind kind.Long h = lit< tt
+plain_kind kind.Double h = lit< tt
+plain_kind kind.Timestamp h = lit< tt
+plain_kind kind.Decimal64 h = lit< tt
+plain_kind kind.Decimal128 h = lit< tt
+plain_kind kind.Uuid h = lit< tt
+plain_kind kind.Binary h = lit< tt
+plain_kind kind.String h = lit< tt
+plain_kind kind.Symbol h = lit< tt
+plain_kind kind.List h = absurd (h.0 refl)
+plain_kind kind.Map h = absurd (h.1 refl)
+plain_kind kind.Array h = absurd (h.2 refl)

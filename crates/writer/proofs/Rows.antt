@@ -28,7 +28,7 @@ use Rattle.writer.specs.Direct.{is_list_or_map, is_arrayed}
 use Rattle.writer.specs.Filling.{fresh, beyond, kind_at, number_at, letters_at, mark_at, own_at, Ready, Stepped, Pending, Filled, value_of, element_of, One, Done, Elements, Lasts, Rows, Left, Going, going, Run, SomeLeft, Fillable}
 use Rattle.writer.specs.declared.filling.Cursor.{Cursor}
 use Rattle.writer.proofs.Tabled.{all_kinds, of_kind, other}
-use Rattle.writer.proofs.Bodies.{enclosed_width, item_wide, empty_body, kind_small}
+use Rattle.writer.proofs.Bodies.{enclosed_width, item_wide, empty_body, kind_small, member_kind}
 use Rattle.writer.proofs.Joined.{join, rows_join, text_join, marks_join, bytes_join, valid_join, deeper*}
 use Rattle.writer.proofs.Spots.{sure_inside, spot_fits, row_bytes}
 use Rattle.writer.proofs.Stores.{drop_sets}
@@ -432,6 +432,31 @@ array_in m {words = words} {text = x} {out = out} {c = c} {v = node k n t cs} g 
       due = λ z d. rw f.number (record { pending = o.pending; ends = d ∙ omega (arith, f.size (rw i tt), ap length body) });
       done = λ z q w. record { bytes = w.bytes ∙ o.bytes; place = w.place ∙ o.place };
     }
+
+-- its number tells a kind
+pub array_told : (m : Mode) (v : Tree) {words text out : List ℕ} {c : Cursor} {k₀ : ℕ} → One words text out m c k₀ v → kind_at words c ≡ 0xf0 → is_kind (style_of (kind_in (number_at words c))) ≡ true
+unfolding style_of lookup kinds spot_in
+array_told m (node k n t cs) g e =
+    let f = in_front m g in
+    let i : k ≡ 0xf0 = sym f.kind ∙ e in
+    let spot : spot_in (style_of k) n ≡ like (kind_in n) = rw i in
+    rw f.number (T_true _ (member_kind (style_of (kind_in n)) (rw spot at f.sure)))
+
+-- What the next row is, by the end of the values
+
+pub at_values : (last at : ℕ) → values ≡ (if (leb last at) elements values) → at < last
+at_values last at e = go (leb last at) refl e
+  where
+    go : (b : Bool) → leb last at ≡ b → values ≡ (if b elements values) → at < last
+    go true q f = absurd (cc)
+    go false q f = leb-false last at q
+
+pub at_elements : (last at : ℕ) → elements ≡ (if (leb last at) elements values) → last ≤ at
+at_elements last at e = go (leb last at) refl e
+  where
+    go : (b : Bool) → leb last at ≡ b → elements ≡ (if b elements values) → last ≤ at
+    go true q f = leb-true last at q
+    go false q f = absurd (cc)
 
 -- Loops: what is left comes to what was due
 

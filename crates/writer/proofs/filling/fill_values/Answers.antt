@@ -10,6 +10,12 @@ loop-c-init c = (refl, ran_none)
 pub overflow_mul-c : goal.overflow_mul-c
 overflow_mul-c c = omega (arith, ran_row c.loop-c.invariant.1 c.requires c.loop-c-test.true)
 
+pub offset_bounds-table-c : goal.offset_bounds-table-c
+offset_bounds-table-c c = omega (arith, ran_row c.loop-c.invariant.1 c.requires c.loop-c-test.true)
+
+pub bounds-table-c : goal.bounds-table-c
+bounds-table-c c = omega (arith, ran_row c.loop-c.invariant.1 c.requires c.loop-c-test.true)
+
 pub shape_of-out-then-table-c : goal.shape_of-out-then-table-c
 shape_of-out-then-table-c c = c.loop-c.invariant.0
 
