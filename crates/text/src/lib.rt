@@ -41,7 +41,7 @@ fn lead_of(byte: u8) -> Option<Lead>
 fn byte_at(text: &[u8], at: usize, lo: u8, hi: u8) -> bool
     ensures { result ≡ stand (from◌to◌ lo hi ∷ []) (drop at text.now) }
 {
-    text.get(at).is_some_and(|byte| lo <= *byte && *byte <= hi)
+    text.get(at).is_some_and(|byte| (lo..=hi).contains(byte))
 }
 
 // UTF8-tail.
