@@ -79,9 +79,9 @@ fn put_coded<const N: usize>(out: &mut [u8], at: usize, code: u8, number: u64) -
     requires { (N ≤ 8) × (at + length (code ∷ be N number) ≤ length out.old) }
     ensures { Put (code ∷ be N number) out.old at out.new result }
 {
-    out[at] = code;
-    put_low::<N>(out, at + 1, number);
-    1 + N
+    let size = put_code(out, at, code);
+    put_low::<N>(out, at + size, number);
+    size + N
 }
 
 // A code, and the size and the count of a body in N bytes each. The size takes in the bytes of the count.
@@ -229,9 +229,9 @@ pub(crate) fn put_blob(out: &mut [u8], at: usize, code: u8, text: &[u8], from: u
     requires { (at + 17 ≤ length out.old) × (from + 16 ≤ length text.now) }
     ensures { Put (code ∷ take 16 (drop from text.now)) out.old at out.new result }
 {
-    out[at] = code;
-    copy_run::<16>(out, at + 1, text, from);
-    17
+    let size = put_code(out, at, code);
+    copy_run::<16>(out, at + size, text, from);
+    size + 16
 }
 
 // A number in the shortest form of its kind.

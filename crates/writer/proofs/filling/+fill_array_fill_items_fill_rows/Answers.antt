@@ -65,8 +65,7 @@ fill_array-overflow_add-first t c = record { fits = omega (arith, (array_here t 
 
 pub fill_array-fill_items-requires : goal.fill_array-fill_items-requires
 fill_array-fill_items-requires t c =
-    let f = array_here t (goal.at.fill_array-fill_items-requires t c).Start _ _ c.put_array-first.ensures in
-    (
+    let f = array_here t (goal.at.fill_array-fill_items-requires t c).Start _ _ c.put_array-first.ensures in (
       omega (arith, f.less, (ready_here t (goal.at.fill_array-fill_items-requires t c).Start).row),
       (f.cs, rw c.told_kind-told.ensures (f.due _ (ap (λ (x : ℕ). c.put_array-first.result.at + x) (elements_here t (goal.at.fill_array-fill_items-requires t c).After-body_at-elements)))),
     )
@@ -112,8 +111,7 @@ fill_rows-loop-c-smaller-then-table-c t c =
 
 pub fill_rows-loop-c-preserved-then-table-c : goal.fill_rows-loop-c-preserved-then-table-c
 fill_rows-loop-c-preserved-then-table-c t c =
-    let o = whole_turn (left_here t (goal.at.fill_rows-loop-c-preserved-then-table-c t c).At-loop-c) c.loop-c-test.true _ c.mode_at-mode.ensures in
-    (
+    let o = whole_turn (left_here t (goal.at.fill_rows-loop-c-preserved-then-table-c t c).At-loop-c) c.loop-c-test.true _ c.mode_at-mode.ensures in (
       c.fill_array-c.auto.out ∙ c.loop-c.invariant.0,
       omega (arith, c.loop-c.invariant.1, o.less _ _ (c.fill_array-c.ensures o.kind o.tree o.one)),
       λ k us vs e. let n = whole_turn (c.loop-c.invariant.2 k us vs e) c.loop-c-test.true _ c.mode_at-mode.ensures in n.next _ _ (c.fill_array-c.ensures n.kind n.tree n.one),
@@ -166,8 +164,7 @@ fill_rows-loop-c-smaller t c = omega (arith, row_here t (goal.at.fill_rows-loop-
 
 pub fill_rows-loop-c-preserved : goal.fill_rows-loop-c-preserved
 fill_rows-loop-c-preserved t c =
-    let o = goal.at.fill_rows-loop-c-preserved t c in
-    (
+    let o = goal.at.fill_rows-loop-c-preserved t c in (
       c.put_nested-c.auto.out ∙ c.loop-c.invariant.0,
       omega (arith, c.loop-c.invariant.1, ap (λ z. z.row) c.put_nested-c.ensures.place),
       λ k us vs e. (nested_here t o.In-Elements (c.loop-c.invariant.2 k us vs e)).next _ _ c.put_nested-c.ensures _ (ap (λ (x : ℕ). c.put_nested-c.result.at + x) (body_here t o.After-body_at-body)),
