@@ -21,7 +21,7 @@ pub(crate) fn put_bytes(page: &mut Page, bytes: &[u8])
     };
 }
 
-// A number in decimal.
+// A number in decimal. `write!` promises its text where it succeeds, but not that it does, so the digits are put as bytes.
 fn put_decimal(page: &mut Page, number: u64)
     requires { array_vec_len page.old + length (decimal number) ≤ output_most }
     ensures { page.new.items ≡ page.old.items ++ decimal number }
@@ -40,7 +40,7 @@ fn put_number(page: &mut Page, number: u64)
     put_decimal(page, number);
 }
 
-// A space, and a kind in two hex digits.
+// A space, and a kind in two hex digits: its number, as it stands in the table.
 fn put_hex(page: &mut Page, kind: u64)
     requires { (kind < 256) × (array_vec_len page.old + length (space ∷ hex kind) ≤ output_most) }
     ensures { page.new.items ≡ page.old.items ++ space ∷ hex kind }
