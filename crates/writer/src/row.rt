@@ -101,14 +101,14 @@ pub(crate) fn check_row(
         return Err(refuse(Reason::ElementUnfit, row));
     }
     let style = kind.style();
-    if !style.takes(u64::from(kind), number) {
+    if !style.takes(word, number) {
         return Err(refuse(outside(style, number), row));
     }
     let count = style.letters(number) as usize;
     if table.text.len() - from < count {
         return Err(refuse(Reason::TextAmiss, row));
     }
-    let good = text::good_length(u64::from(kind), table.text, from, count);
+    let good = text::good_length(word, table.text, from, count);
     if good < count {
         return Err(refuse(Reason::TextAmiss, from + good));
     }

@@ -11,10 +11,10 @@ pub returns-then-text-from : goal.returns-then-text-from
 returns-then-text-from c = text_short_lem _ _ _ (rw length-drop c.if-text-from.true)
 
 pub returns-then-good_length-count : goal.returns-then-good_length-count
-returns-then-good_length-count c = text_bad _ _ _ (rw length-drop c.if-text-from.false) _ c.good_length.ensures c.if-good_length-count.true
+returns-then-good_length-count c = text_bad _ _ _ (rw length-drop c.if-text-from.false) _ (rw c.from.ensures at c.good_length.ensures) c.if-good_length-count.true
 
 pub returns-then-number-lt-SHORT_END : goal.returns-then-number-lt-SHORT_END
-returns-then-number-lt-SHORT_END c = text_good _ _ _ c.if-number-gt-MOST.false (rw length-drop c.if-text-from.false) _ c.good_length.ensures c.if-good_length-count.false 2 (rw (lt-ltb _ _ c.if-number-lt-SHORT_END.true))
+returns-then-number-lt-SHORT_END c = text_good _ _ _ c.if-number-gt-MOST.false (rw length-drop c.if-text-from.false) _ (rw c.from.ensures at c.good_length.ensures) c.if-good_length-count.false 2 (rw (lt-ltb _ _ c.if-number-lt-SHORT_END.true))
 
 pub returns : goal.returns
-returns c = text_good _ _ _ c.if-number-gt-MOST.false (rw length-drop c.if-text-from.false) _ c.good_length.ensures c.if-good_length-count.false 5 (rw (le-ltb _ _ c.if-number-lt-SHORT_END.false))
+returns c = text_good _ _ _ c.if-number-gt-MOST.false (rw length-drop c.if-text-from.false) _ (rw c.from.ensures at c.good_length.ensures) c.if-good_length-count.false 5 (rw (le-ltb _ _ c.if-number-lt-SHORT_END.false))
