@@ -1,5 +1,6 @@
 -- What the functions of the listing are held to, beside the definition of its text (Listing.antt of `standard`).
-use Rattle.std.specs.Prelude.{ℕ, ◌+◌, ◌*◌, ◌<◌, List, [], ◌∷◌, ◌++◌, length}
+use Rattle.std.specs.Prelude.{ℕ, ◌+◌, ◌*◌, ◌<◌, ◌≤◌, List, [], ◌∷◌, ◌++◌, length}
+use Rattle.arrayvec.specs.ArrayVec.{ArrayVec, array_vec_len}
 use Rattle.standard.specs.Listing.{decimal, space, newline, end_word, refused_word, input_most}
 
 -- the line behind the rows, and the line of a refusal
@@ -22,3 +23,7 @@ line_most = 45
 -- no listing is longer: there are no more rows than bytes, and one line more
 abbrev pub output_most : ℕ
 output_most = (input_most + 1) * line_most
+
+-- there is room for those bytes behind what stands on the page
+abbrev pub HasRoom : ArrayVec ℕ → (bytes : List ℕ) → Type 0
+HasRoom page bs = array_vec_len page + length bs ≤ output_most

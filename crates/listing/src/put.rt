@@ -1,9 +1,8 @@
 // Text of the listing, put behind what stands on a page.
-ghost use Rattle.std.specs.Prelude.{◌≡◌, ◌∷◌, ◌++◌, ◌+◌, ◌<◌, ◌≤◌, length};
-ghost use Rattle.arrayvec.specs.ArrayVec.{array_vec_len};
+ghost use Rattle.std.specs.Prelude.{◌≡◌, ◌∷◌, ◌++◌, ◌<◌};
 ghost use Rattle.standard.specs.InCode.{reason_is};
 ghost use Rattle.standard.specs.Listing.{decimal, hex, space, line, lines};
-ghost use Rattle.listing.specs.Lines.{end_line, refused_line, Narrow, output_most};
+ghost use Rattle.listing.specs.Lines.{end_line, refused_line, Narrow, HasRoom};
 
 use crate::OUTPUT_MOST;
 use arrayvec::ArrayVec;
@@ -13,7 +12,7 @@ pub(crate) type Page = ArrayVec<u8, OUTPUT_MOST>;
 
 // Bytes as they are.
 pub(crate) fn put_bytes(page: &mut Page, bytes: &[u8])
-    requires { array_vec_len page.old + length bytes.now ≤ output_most }
+    requires { HasRoom page.old bytes.now }
     ensures { page.new.items ≡ page.old.items ++ bytes.now }
 {
     let Ok(()) = page.try_extend_from_slice(bytes) else {
@@ -23,7 +22,7 @@ pub(crate) fn put_bytes(page: &mut Page, bytes: &[u8])
 
 // A number in decimal. `write!` promises its text where it succeeds, but not that it does, so the digits are put as bytes.
 fn put_decimal(page: &mut Page, number: u64)
-    requires { array_vec_len page.old + length (decimal number) ≤ output_most }
+    requires { HasRoom page.old (decimal number) }
     ensures { page.new.items ≡ page.old.items ++ decimal number }
 {
     let mut digits = [0u8; 20];
@@ -33,7 +32,7 @@ fn put_decimal(page: &mut Page, number: u64)
 
 // A space, and a number in decimal.
 fn put_number(page: &mut Page, number: u64)
-    requires { array_vec_len page.old + length (space ∷ decimal number) ≤ output_most }
+    requires { HasRoom page.old (space ∷ decimal number) }
     ensures { page.new.items ≡ page.old.items ++ space ∷ decimal number }
 {
     page.push(b' ');
@@ -42,7 +41,7 @@ fn put_number(page: &mut Page, number: u64)
 
 // A space, and a kind in two hex digits: its number, as it stands in the table.
 fn put_hex(page: &mut Page, kind: u64)
-    requires { (kind < 256) × (array_vec_len page.old + length (space ∷ hex kind) ≤ output_most) }
+    requires { (kind < 256) × HasRoom page.old (space ∷ hex kind) }
     ensures { page.new.items ≡ page.old.items ++ space ∷ hex kind }
 {
     let mut digits = [0u8; 16];
@@ -53,7 +52,7 @@ fn put_hex(page: &mut Page, kind: u64)
 
 // The line of a row.
 fn put_line(page: &mut Page, row: u64, kind: u64, number: u64)
-    requires { (kind < 256) × (array_vec_len page.old + length (line row kind number) ≤ output_most) }
+    requires { (kind < 256) × HasRoom page.old (line row kind number) }
     ensures { page.new.items ≡ page.old.items ++ line row kind number }
 {
     put_decimal(page, row);
@@ -64,7 +63,7 @@ fn put_line(page: &mut Page, row: u64, kind: u64, number: u64)
 
 // A line for each row.
 pub(crate) fn put_lines(page: &mut Page, words: &[u64])
-    requires { Narrow words.now × (array_vec_len page.old + length (lines 0 words.now) ≤ output_most) }
+    requires { Narrow words.now × HasRoom page.old (lines 0 words.now) }
     ensures { page.new.items ≡ page.old.items ++ lines 0 words.now }
 {
     for (row, pair) in words.chunks_exact(2).enumerate() {
@@ -76,7 +75,7 @@ pub(crate) fn put_lines(page: &mut Page, words: &[u64])
 
 // The line behind the rows of a value: its length.
 pub(crate) fn put_end(page: &mut Page, size: usize)
-    requires { array_vec_len page.old + length (end_line size) ≤ output_most }
+    requires { HasRoom page.old (end_line size) }
     ensures { page.new.items ≡ page.old.items ++ end_line size }
 {
     put_bytes(page, b"end");
@@ -86,7 +85,7 @@ pub(crate) fn put_end(page: &mut Page, size: usize)
 
 // The line of a refusal.
 pub(crate) fn put_refusal(page: &mut Page, refusal: Refusal)
-    requires { array_vec_len page.old + length (refused_line (reason_is refusal.reason) refusal.place) ≤ output_most }
+    requires { HasRoom page.old (refused_line (reason_is refusal.reason) refusal.place) }
     ensures { page.new.items ≡ page.old.items ++ refused_line (reason_is refusal.reason) refusal.place }
 {
     put_bytes(page, b"refused");
