@@ -24,17 +24,6 @@ use Rattle.writer.proofs.Bodies.{kind_small}
 use Rattle.writer.proofs.Direct.{Sole}
 use Rattle.writer.proofs.Rows.{row_of}
 
--- the width of a mark is none or three bytes
-abbrev Two : ℕ → Type 0
-Two w = (w ≡ 0 → ⊥) → w ≡ 3
-
-two_widths : (n : ℕ) → Two (if (eqb n 0) 0 3)
-two_widths n = if_case Two (eqb n 0) 0 3 (λ t h. absurd (h refl)) (λ t h. refl)
-
-row_two : (s : Style) (n : ℕ) → Two (mark_width s n)
-row_two s n =
-    rw (row_of s n 0).0 (if_case Two (is_list_or_map s) _ _ (λ t. two_widths n) (λ t. if_case Two (is_arrayed s) _ 0 (λ u. two_widths (count_in n)) (λ u h. absurd (h refl))))
-
 -- A row's bytes: a head of a width, and so many bytes of text. It has a mark of a width
 pub record Parts (m : Mode) (words text out : List ℕ) (c : Cursor) (front : List ℕ) (wide count width : ℕ) : Type 0 where
   pub bytes : own_at m words text out c ≡ front ++ take count (drop c.text text)
@@ -47,10 +36,6 @@ pub record Parts (m : Mode) (words text out : List ℕ) (c : Cursor) (front : Li
 module _ (m : Mode) (words text out : List ℕ) (c : Cursor) (h : Ready m words text out c) (s : Style) (e : s ≡ style_of (kind_at words c)) (w : ℕ) (p : w ≡ mark_width s (number_at words c)) where
   width : mark_at words c ≡ w
   width = rw (p, e)
-
-  -- what reading a mark asks
-  pub mark_room : (c.mark + w ≤ length out) × ((w ≡ 0 → ⊥) → w ≡ 3)
-  mark_room = (omega (arith, h.marked, width), rw p (row_two s (number_at words c)))
 
   pub parts : (l : ℕ) → l ≡ letters s (number_at words c) → (b v : ℕ) (f : List ℕ) → b ≡ unbe (take w (drop c.mark out)) → f ≡ head_in m s (kind_at words c % 256) (number_at words c) b → length f ≡ v → Parts m words text out c f v l w
   parts l t b v f i j a =

@@ -27,23 +27,10 @@ use Rattle.laws.specs.Stores.{put_on}
 pub coded_long : (k w n : ℕ) → length (k ∷ be w n) ≡ 1 + w
 coded_long k w n = omega (arith, length_be w n)
 
-pub coded_put : (l : List ℕ) (at k w n : ℕ) → sets (set l at k) (at + 1) (be w n) ≡ sets l at (k ∷ be w n)
-coded_put l at k w n = let e : at + 1 ≡ suc at = omega arith in rw e
-
 -- one code or another
 pub flag_long : (t : Bool) (x y : ℕ) → length (if t (x ∷ []) (y ∷ [])) ≡ 1
 flag_long true x y = refl
 flag_long false x y = refl
-
--- the length of an unsigned number, whatever its codes are
-pub unsigned_long : (z s k w n : ℕ) → length (shortest (unsigned z s) w k n) ≡ length (shortest (unsigned 0 0) w 0 n)
-unfolding shortest
-unsigned_long z s k w n = go (eqb n 0) (ltb n 256)
-  where
-    go : (t u : Bool) → length (if t (z ∷ []) (if u (s ∷ be 1 n) (k ∷ be w n))) ≡ length (if t (0 ∷ []) (if u (0 ∷ be 1 n) (0 ∷ be w n)))
-    go true u = refl
-    go false true = refl
-    go false false = refl
 
 -- a code and two numbers of the same width
 pub sized_long : (k w x n : ℕ) → length (k ∷ be w x ++ be w n) ≡ 1 + w + w

@@ -418,11 +418,7 @@ bare_small elements k n = omega (arith, item_wide (style_of k) n 0, item_short k
 pub bare_fits : (w : List ℕ) (st : Stack) (c : Point) → Ready w st c → c.size + bare c.mode (kind_on w c) (number_on w c) < 2 ^ 64
 bare_fits w st c h = omega (arith, h.small, bare_small c.mode (kind_on w c) (number_on w c))
 
-module _ (w : List ℕ) (st : Stack) (c : Point) (h : Ready w st c) (y m : ℕ) (f : y ≡ bare c.mode (kind_on w c) (number_on w c)) (g : m ≡ if (eqb (kind_on w c) 0) 2 0) where
-  pub past_asks : (c.row + 1 < 2 ^ 64) × (c.size + y < 2 ^ 64) × (0 < c.left) × (c.left + m < 2 ^ 64)
-  past_asks =
+pub past_asks : (w : List ℕ) (st : Stack) (c : Point) → Ready w st c → (y m : ℕ) → y ≡ bare c.mode (kind_on w c) (number_on w c) → m ≡ if (eqb (kind_on w c) 0) 2 0 → (c.row + 1 < 2 ^ 64) × (c.size + y < 2 ^ 64) × (0 < c.left) × (c.left + m < 2 ^ 64)
+past_asks w st c h y m f g =
       let i : m ≤ 2 = rw g (if_case (λ (z : ℕ). z ≤ 2) (eqb (kind_on w c) 0) 2 0 (λ t. omega arith) (λ t. omega arith)) in
       (h.row, omega (arith, f, bare_fits w st c h), h.some, omega (arith, h.left))
-
-  pub past_taken : (b : Bool) → b ≡ boxes (style_of (kind_on w c)) (number_on w c) → b ≡ false → (r : Point) → r ≡ beyond c y m → (r ≡ taken c (kind_on w c) (number_on w c)) × (st ≡ stacked st c (kind_on w c) (number_on w c))
-  past_taken b i j r e = rw (sym i ∙ j) (e ∙ rw (f, g), refl)

@@ -88,10 +88,6 @@ both_ends l t i j n w h g =
 pub within : (d : List ℕ) (m w n : ℕ) → m + w ≤ n → take w (drop m (take n d)) ≡ take w (drop m d)
 within d m w n h = rw drop_take (take-take w (n - m) (drop m d) (omega arith))
 
--- bytes written before them leave them
-pub untouched : (d : List ℕ) (i : ℕ) (xs : List ℕ) (m n : ℕ) → i + length xs ≤ m → drop m (take n (sets d i xs)) ≡ drop m (take n d)
-untouched d i xs m n h = drop_take m n (sets d i xs) ∙ rw (drop_sets d i xs m h) (sym (drop_take m n d))
-
 -- the number in three bytes
 pub three : (d : List ℕ) (i : ℕ) → i + 3 ≤ length d → (get_or d i 0 * 256 + get_or d (i + 1) 0) * 256 + get_or d (i + 2) 0 ≡ unbe (take 3 (drop i d))
 unfolding spell

@@ -67,16 +67,7 @@ fn mark_at(out: &[u8], at: usize) -> usize
     requires { at + 3 ≤ length out.now }
     ensures { (result ≡ unbe (take 3 (drop at out.now))) × (result < 2 ^ 24) }
 {
-    let high = byte(out[at]);
-    let middle = byte(out[at + 1]);
-    let low = byte(out[at + 2]);
-    (high * 256 + middle) * 256 + low
-}
-
-fn byte(x: u8) -> usize
-    ensures { (result ≡ x) × (result < 256) }
-{
-    x as usize
+    u32::from_be_bytes([0, out[at], out[at + 1], out[at + 2]]) as usize
 }
 
 // The bytes that so many children take, by their mark.
