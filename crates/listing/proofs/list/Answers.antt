@@ -1,5 +1,5 @@
 -- `list` puts what the listing shows of what was read.
-use Rattle.std.proofs.Common.{arith, ◌≤◌, ◌≡◌, ◌∙◌, ◌++◌, sym, ap, length, length-append, length-take-le, take, ◌*◌}
+use Rattle.std.proofs.Common.{arith, ◌≡◌, ◌∙◌, ◌++◌, sym, ap, length, length-append, length-take-le, take, ◌*◌}
 use Rattle.standard.specs.Outcomes.{level_most}
 use Rattle.standard.specs.Listing.{listing, lines}
 use Rattle.standard.specs.InCode.{reason_is}
@@ -19,16 +19,16 @@ told : (c : In-Err) → listing level_most c.args.bytes.now ≡ refused_line (re
 told c = refused level_most c.args.bytes.now (omega arith) (record { row_room = omega arith; text_room = omega arith }) _ _ c.in-Err.ensures.0
 
 pub overflow_mul-words : goal.overflow_mul-words
-overflow_mul-words c = omega (arith, (read c).few)
+overflow_mul-words c = omega (arith, (read (goal.at.overflow_mul-words c).In-Ok).few)
 
 pub slice_bounds-words-end : goal.slice_bounds-words-end
-slice_bounds-words-end c = omega (arith, (read c).few, c.read_within.auto.words)
+slice_bounds-words-end c = omega (arith, (read (goal.at.slice_bounds-words-end c).In-Ok).few, c.read_within.auto.words)
 
 pub slice_bounds-put_lines-end : goal.slice_bounds-put_lines-end
-slice_bounds-put_lines-end c = sym (length-take-le _ _ (omega (arith, (read c).few, c.read_within.auto.words)))
+slice_bounds-put_lines-end c = sym (length-take-le _ _ (omega (arith, (read (goal.at.slice_bounds-put_lines-end c).In-Ok).few, c.read_within.auto.words)))
 
 pub put_lines-requires : goal.put_lines-requires
-put_lines-requires c = ((read c).narrow, omega (arith, (read c).short, ap length c.new-page.ensures))
+put_lines-requires c = ((read (goal.at.put_lines-requires c).In-Ok).narrow, omega (arith, (read (goal.at.put_lines-requires c).In-Ok).short, ap length c.new-page.ensures))
 
 pub put_end-requires : goal.put_end-requires
 put_end-requires c =
@@ -36,7 +36,7 @@ put_end-requires c =
     simp length-append (omega (arith, short, (read (goal.at.put_end-requires c).In-Ok).short, ap length c.new-page.ensures, simp length-append at (ap length c.put_lines.ensures)))
 
 pub put_refusal-requires : goal.put_refusal-requires
-put_refusal-requires c = omega (arith, ap length c.new-page.ensures, rw (told c) at (listing_short level_most c.args.bytes.now))
+put_refusal-requires c = omega (arith, ap length c.new-page.ensures, rw (told (goal.at.put_refusal-requires c).In-Err) at (listing_short level_most c.args.bytes.now))
 
 pub returns-in-Ok : goal.returns-in-Ok
 returns-in-Ok c =

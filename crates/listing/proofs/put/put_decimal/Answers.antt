@@ -1,5 +1,5 @@
 -- The digits of `io::decimal` are put as they are.
-use Rattle.std.proofs.Common.{arith, ◌≡◌, ◌∙◌, ap, ◌++◌, length, take}
+use Rattle.std.proofs.Common.{arith, ◌≡◌, ◌∙◌, ap, ◌++◌, take}
 use Rattle.standard.specs.Listing.{decimal}
 use Rattle.listing.proofs.Decimals.{digits_decimal}
 use Rattle.listing.proofs.put.put_decimal.Goals as goal

@@ -1,5 +1,5 @@
 -- The two digits of `io::hex` are put behind a space.
-use Rattle.std.proofs.Common.{arith, ◌≡◌, ◌∙◌, ap, ◌++◌, ◌∷◌, length, take, append_assoc}
+use Rattle.std.proofs.Common.{arith, ◌≡◌, ◌∙◌, take, append_assoc}
 use Rattle.standard.specs.Listing.{hex}
 use Rattle.listing.proofs.Decimals.{digits_hex}
 use Rattle.listing.proofs.put.put_hex.Goals as goal

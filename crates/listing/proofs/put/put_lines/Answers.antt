@@ -1,10 +1,10 @@
 -- The lines that are left become fewer by one in each turn, and come to none.
-use Rattle.std.proofs.Common.{rules, arith, ◌≡◌, ◌∙◌, ◌+◌, ap, subst, sym, ◌++◌, length, length-append, get_or}
+use Rattle.std.proofs.Common.{rules, arith, ◌∙◌, ◌+◌, ap, subst, sym, ◌++◌, length-append, get_or}
 use Rattle.std.specs.Iterator.Adapters.{enumerate_source, enumerate_count}
 use Rattle.std.specs.Slice.Iter.{chunks_exact_rest, chunks_exact_size}
 use Rattle.standard.specs.Listing.{lines}
 use Rattle.listing.specs.Lines.{Narrow}
-use Rattle.listing.proofs.Lines.{Left, Next, left_on, left_none}
+use Rattle.listing.proofs.Lines.{Next, left_on, left_none}
 use Rattle.listing.proofs.put.put_lines.Goals as goal
 use Rattle.listing.proofs.put.put_lines.Goals.{In-Some}
 
