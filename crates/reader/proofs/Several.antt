@@ -257,10 +257,10 @@ module _ (s : List ℕ) (h : Option ℕ) (l count p a i j k : ℕ) (g : Going s 
         ends x q f = fails x q (same ∙ refused_of (length (drop o.from s)) (payload l o.code (p + a) (drop o.from s)) x q (sym d ∙ f))
 
         -- the turn goes on behind the value, and takes at least a byte
-        pub again : (x : Extent) → m ≡ got x → Going s h l count p (o.from + x.length) (i + x.rows) (j + x.text) (k + 1)
+        pub again : (x : Extent) → m ≡ got x → Going s h l count p (o.from + x.length) (i + x.rows) (j + x.text) (k + 1) × (a < o.from + x.length)
         again x f = go (read_of (length (drop o.from s)) (payload l o.code (p + a) (drop o.from s)) x (sym d ∙ f)) (opened h l a (p + a) (drop a s) o (sym e))
           where
-            go : Read (length (drop o.from s)) (payload l o.code (p + a) (drop o.from s)) x → Opened h l a (drop a s) o.code o.from → Going s h l count p (o.from + x.length) (i + x.rows) (j + x.text) (k + 1)
+            go : Read (length (drop o.from s)) (payload l o.code (p + a) (drop o.from s)) x → Opened h l a (drop a s) o.code o.from → Going s h l count p (o.from + x.length) (i + x.rows) (j + x.text) (k + 1) × (a < o.from + x.length)
             go q r =
                 let u = out (rw q.is_read at (payload_cut l o.code (p + a) (drop o.from s))) in
                 let v = length-drop o.from s in
@@ -268,17 +268,20 @@ module _ (s : List ℕ) (h : Option ℕ) (l count p a i j k : ℕ) (g : Going s 
                 let y : q.rest ≡ drop (o.from + x.length) s = u.left ∙ rw (← q.bytes, drop-drop x.length o.from s) in
                 let z : count - (k + 1) ≡ count - k - 1 = omega arith in
                 let some = out (rw q.is_read at (payload_some l o.code (p + a) (drop o.from s))) in
-                record {
-                  taking = g.taking;
-                  inside = omega (arith, u.room, q.bytes, begun);
-                  few = omega (arith, g.few, by_head h l a (p + a) (drop a s) o (sym e) g.taking x.length (λ t. omega (arith, some t, q.bytes)));
-                  height = omega (arith, u.rows, q.bytes, q.rows, r.begins, g.height);
-                  letters = omega (arith, u.letters, q.bytes, q.letters, r.begins, g.letters);
-                  sum = rw (q.rows, q.letters, ← w, ← y, z) (sym (many_got (reads h l) (length s) i j (count - k) (p + a) (drop a s) q.tree q.rest (omega arith) (same ∙ q.is_read)) ∙ g.sum);
-                }
+                let taken : a < o.from + x.length = by_head h l a (p + a) (drop a s) o (sym e) g.taking x.length (λ t. omega (arith, some t, q.bytes)) in (
+                  record {
+                    taking = g.taking;
+                    inside = omega (arith, u.room, q.bytes, begun);
+                    few = omega (arith, g.few, taken);
+                    height = omega (arith, u.rows, q.bytes, q.rows, r.begins, g.height);
+                    letters = omega (arith, u.letters, q.bytes, q.letters, r.begins, g.letters);
+                    sum = rw (q.rows, q.letters, ← w, ← y, z) (sym (many_got (reads h l) (length s) i j (count - k) (p + a) (drop a s) q.tree q.rest (omega arith) (same ∙ q.is_read)) ∙ g.sum);
+                  },
+                  taken,
+                )
 
       -- a scalar that needs no look
-      pub plainly : (w : ℕ) → Plain o.code w → w ≤ length s - o.from → Going s h l count p (o.from + w) (i + 1) j (k + 1)
+      pub plainly : (w : ℕ) → Plain o.code w → w ≤ length s - o.from → Going s h l count p (o.from + w) (i + 1) j (k + 1) × (a < o.from + w)
       plainly w f m =
           let q : fits w 1 0 ≡ measured (length (drop o.from s)) (payload l o.code (p + a) (drop o.from s)) = sym (f l (p + a) (drop o.from s) begun.2 (rw length-drop m)) in
           let y : j + 0 ≡ j = omega arith in

@@ -207,24 +207,24 @@ many-returns-in_err-value t c =
 pub many-overflow_add-at : goal.many-overflow_add-at
 many-overflow_add-at t c =
     let p = again _ _ _ _ _ _ _ _ _ c.loop.invariant c.loop-test.true _ c.in_ok-start.ensures _ (rw rest at c.in_ok-value.ensures) _ refl in
-    omega (arith, p.inside)
+    omega (arith, p.0.inside)
 
 pub many-overflow_add-rows-else-is_plain : goal.many-overflow_add-rows-else-is_plain
 many-overflow_add-rows-else-is_plain t c =
     let p = again _ _ _ _ _ _ _ _ _ c.loop.invariant c.loop-test.true _ c.in_ok-start.ensures _ (rw rest at c.in_ok-value.ensures) _ refl in
-    omega (arith, p.inside, p.height)
+    omega (arith, p.0.inside, p.0.height)
 
 pub many-overflow_add-text : goal.many-overflow_add-text
 many-overflow_add-text t c =
     let p = again _ _ _ _ _ _ _ _ _ c.loop.invariant c.loop-test.true _ c.in_ok-start.ensures _ (rw rest at c.in_ok-value.ensures) _ refl in
-    omega (arith, p.inside, p.letters)
+    omega (arith, p.0.inside, p.0.letters)
 
 pub many-loop-preserved : goal.many-loop-preserved
 many-loop-preserved t c = elim c.if-is_plain.branch [
   | many-then-is_plain+then-end-s w ↦
-      rw (w.at-is, w.rows-is, w.text-is) (plainly _ _ _ _ _ _ _ _ _ c.loop.invariant c.loop-test.true _ c.in_ok-start.ensures _ (rw c.plain_width.ensures.0 (c.is_plain.ensures w.if-is_plain.true)) (omega (arith, w.if-end-s.true)))
+      rw (w.at-is, w.rows-is, w.text-is) (plainly _ _ _ _ _ _ _ _ _ c.loop.invariant c.loop-test.true _ c.in_ok-start.ensures c.plain_width.result (rw c.plain_width.ensures.0 (c.is_plain.ensures w.if-is_plain.true)) (omega (arith, w.if-end-s.true))).0
   | many-else-is_plain+in_ok-value w ↦
-      rw (w.at-is, w.rows-is, w.text-is) (again _ _ _ _ _ _ _ _ _ c.loop.invariant c.loop-test.true _ c.in_ok-start.ensures _ (rw rest at w.in_ok-value.ensures) _ refl)
+      rw (w.at-is, w.rows-is, w.text-is) (again _ _ _ _ _ _ _ _ _ c.loop.invariant c.loop-test.true _ c.in_ok-start.ensures _ (rw rest at w.in_ok-value.ensures) _ refl).0
 ]
 
 pub many-returns : goal.many-returns
