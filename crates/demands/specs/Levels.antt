@@ -4,7 +4,8 @@
 -- same bytes, words and text. `Lasting` of crates/laws/specs/Levels.antt is an answer that is a value, or a refusal with another number than 3 and 15. Where the
 -- first call answers so, the second comes to the same outcome: number, place, length, rows, text, and every lent byte and word.
 use Rattle.std.specs.Prelude.{ℕ, ◌+◌, ◌≤◌, ◌≡◌, List, T}
-use Rattle.std.proofs.Common.{sym, ap, subst, ◌∙◌}
+use Rattle.std.proofs.Common.{refl, sym, ap, subst, ◌∙◌}
+use Rattle.std.specs.Borrow.{Bor}
 use Rattle.standard.specs.Outcomes as outcome
 use Rattle.standard.specs.Outcomes.{in_force}
 use Rattle.laws.specs.Levels.{Lasting, LastingStep, size_lasts_lem, write_lasts_lem, measure_lasts_lem, read_lasts_lem, step_lasts_lem}
@@ -20,7 +21,7 @@ use Rattle.reader.specs.declared.walker.Walker.{Walker}
 use Rattle.reader.specs.declared.walker.Next.{Next}
 use Rattle.reader.proofs.Unique as reader
 use Rattle.reader.proofs.Unique.{MeasurePromise, one_measured, ReadPromise, one_read}
-use Rattle.reader.proofs.Walks.{StepPromise, one_stepped}
+use Rattle.reader.proofs.Walks.{StepPromise, one_stepped, one_next}
 
 pub record Levels : Type 0 where
   pub size_lasts : (l m : ℕ) (w x : List ℕ) (r s : Written) → SizePromise l w x r → SizePromise m w x s → l ≤ m → T (in_force m) → Lasting (written_is r) → s ≡ r
@@ -35,14 +36,12 @@ pub record Levels : Type 0 where
 -- The proofs
 
 -- what is handed out depends on the bytes and on the step alone
-handed_same : (w v x y : Walker) (r s : Next) → NextOf w x r → NextOf v y s → v.bytes ≡ w.bytes → step_of v ≡ step_of w
-    → (step_is s.answer ≡ step_is r.answer) × (s.value.now ≡ r.value.now) × (s.value.ref_ptr ≡ r.value.ref_ptr) × (y.at ≡ x.at)
-handed_same w v x y r s h k e q = (
-  k.answer ∙ ap (λ (t : outcome.Stepping). t.answer) q ∙ sym h.answer,
-  k.value.bytes ∙ (λ i. handed (e i).now (q i).answer) ∙ sym h.value.bytes,
-  k.value.place ∙ (λ i. ((e i).ref_ptr.0, start_of (q i).answer + (e i).ref_ptr.1)) ∙ sym h.value.place,
-  ap (λ (z : Walker). z.at) k.moved ∙ ap (λ (t : outcome.Stepping). t.at) q ∙ sym (ap (λ (z : Walker). z.at) h.moved),
-)
+handed_same : (w v x y : Walker) (r s : Next) → NextOf w r x → NextOf v s y → v.bytes ≡ w.bytes → v.at ≡ w.at → step_of v ≡ step_of w → (s ≡ r) × (y.at ≡ x.at)
+handed_same w v x y r s h k e f q =
+    let a : next_is w s ≡ (step_of w).answer = ap (λ (i : ℕ). next_is (record { bytes = w.bytes; at = i; limit = w.limit }) s) (sym f) ∙ k.answer ∙ ap (λ (t : outcome.Stepping). t.answer) q in
+    let b : Handed w.bytes (step_of w).answer s = subst (λ (p : Bor (List ℕ)). Handed p (step_of w).answer s) e (subst (λ (t : outcome.Stepping). Handed v.bytes t.answer s) q k.value) in
+    (sym (one_next w x (record { bytes = w.bytes; at = (step_of w).at; limit = w.limit }) r s h (record { answer = a; value = b; moved = refl })),
+     ap (λ (z : Walker). z.at) k.moved ∙ ap (λ (t : outcome.Stepping). t.at) q ∙ sym (ap (λ (z : Walker). z.at) h.moved))
 
 pub levels : Levels
 levels = record {
@@ -56,5 +55,5 @@ levels = record {
       one_read l b w x s r (k.0 ∙ ap (λ (q : outcome.Reading). q.answer) g, k.1 ∙ ap (λ (q : outcome.Reading). q.words) g, k.2 ∙ ap (λ (q : outcome.Reading). q.letters) g) h;
   step_lasts = λ l m b i r s h k j t q. one_stepped l b i s r (k ∙ step_lasts_lem l m b i j t (subst LastingStep (ap (λ (z : outcome.Stepping). z.answer) h) q)) h;
   next_lasts = λ w v x y r s h k e f i t j.
-      handed_same w v x y r s h k e ((λ n. outcome.step v.limit (e n).now (f n)) ∙ step_lasts_lem w.limit v.limit w.bytes.now w.at i t (subst LastingStep h.answer j));
+      handed_same w v x y r s h k e f ((λ n. outcome.step v.limit (e n).now (f n)) ∙ step_lasts_lem w.limit v.limit w.bytes.now w.at i t (subst LastingStep h.answer j));
 }
