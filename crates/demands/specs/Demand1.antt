@@ -6,7 +6,7 @@
 -- `write_promise`: the contract of the code is this and nothing else. So it is with `SizePromise` there, with `MeasurePromise` and `ReadPromise` of
 -- crates/reader/proofs/Unique.antt, and with `StepPromise` and `NextOf` of the walker (crates/reader/proofs/Walks.antt). A limit l is in force if `T (in_force l)`;
 -- 16 is (`default_in_force` of crates/laws/specs/Levels.antt).
-use Rattle.std.specs.Prelude.{ℕ, ◌*◌, ◌≤◌, ◌<◌, ◌≡◌, refl, List, not, T, length, drop}
+use Rattle.std.specs.Prelude.{ℕ, ◌*◌, ◌≤◌, ◌<◌, ◌≡◌, refl, List, Some, Result, Ok, Err, not, T, length, drop}
 use Rattle.std.proofs.Common.{sym, ap, subst, ◌∙◌}
 use seplogic.Ra.Ura.{Ura}
 use base.Logic.{SProp}
@@ -20,12 +20,11 @@ use denote.Triple.Entry.{Args}
 use Rattle.standard.specs.Answer.{Answer, at, limit_outside}
 use Rattle.standard.specs.Outcomes as outcome
 use Rattle.standard.specs.Outcomes.{in_force, stepped}
+use Rattle.standard.specs.InCode.{reason_is}
 use Rattle.standard.specs.declared.refusal.Refusal.{Refusal}
 use Rattle.laws.specs.Demand1.{outside, Filled, Output, Rooms, room_for, rooms_for, demand1}
 use Rattle.laws.specs.Ranges.{Within, of_size, of_write, of_measure, of_read, StepRange}
 use Rattle.writer.specs.InCode.{written_is}
-use Rattle.writer.specs.declared.Written.{Written}
-use Rattle.writer.specs.declared.Written.TheVariants as written
 use Rattle.writer.proofs.size_within as size_within
 use Rattle.writer.specs.contracts.size_within as size_within_contract
 use Rattle.writer.proofs.size as size
@@ -36,15 +35,10 @@ use Rattle.writer.proofs.write as write
 use Rattle.writer.specs.contracts.write as write_contract
 use Rattle.writer.proofs.Unique as writer
 use Rattle.writer.proofs.Unique.{SizePromise, WritePromise}
-use Rattle.reader.specs.InCode.{measured_is, step_is, stepped_is}
-use Rattle.reader.specs.Walking.{NextOf}
+use Rattle.reader.specs.InCode.{measured_is, stepped_is}
+use Rattle.reader.specs.Walking.{Next, NextOf, next_is}
 use Rattle.reader.specs.declared.measuring.Extent.{Extent}
-use Rattle.reader.specs.declared.measuring.Measured.{Measured}
-use Rattle.reader.specs.declared.measuring.Measured.TheVariants as measured
-use Rattle.reader.specs.declared.walker.Step.TheVariants as step
-use Rattle.reader.specs.declared.walker.Stepped.{Stepped}
 use Rattle.reader.specs.declared.walker.Walker.{Walker}
-use Rattle.reader.specs.declared.walker.Next.{Next}
 use Rattle.reader.proofs.measure_within as measure_within
 use Rattle.reader.specs.contracts.measure_within as measure_within_contract
 use Rattle.reader.proofs.measure as measure
@@ -61,11 +55,11 @@ use Rattle.reader.proofs.walker.Walker.within as within
 use Rattle.reader.specs.contracts.walker.Walker.within as within_contract
 use Rattle.reader.proofs.walker.Walker.new as new
 use Rattle.reader.specs.contracts.walker.Walker.new as new_contract
-use Rattle.reader.proofs.walker.Walker.next as next
-use Rattle.reader.specs.contracts.walker.Walker.next as next_contract
+use Rattle.reader.proofs.walker.WalkerIterator.next as next
+use Rattle.reader.specs.contracts.walker.WalkerIterator.next as next_contract
 use Rattle.reader.proofs.Unique as reader
 use Rattle.reader.proofs.Unique.{MeasurePromise, ReadPromise}
-use Rattle.reader.proofs.Walks.{StepPromise}
+use Rattle.reader.proofs.Walks.{Answered, StepPromise}
 
 -- Every entry point takes everything, and ends
 
@@ -156,47 +150,47 @@ module _ {M : Type 1} {𝓤 : Ura M} (𝓛 : Logic 𝓤) (mem : Memory → SProp
 
 pub record Demand1 : Type 0 where
   -- a limit that may not be named is 15 at place 0, whatever else is given, and leaves all lent memory as it was; each step of a walker says so
-  pub size_limit : (l : ℕ) (w x : List ℕ) (r : Written) → SizePromise l w x r → T (not (in_force l)) → written_is r ≡ outside
+  pub size_limit : (l : ℕ) (w x : List ℕ) (r : Result ℕ Refusal) → SizePromise l w x r → T (not (in_force l)) → written_is r ≡ outside
   pub write_limit : (l : ℕ) (w x o : List ℕ) (r : writer.Outcome) → WritePromise l w x o r → T (not (in_force l)) → (written_is r.answer ≡ outside) × (r.out ≡ o)
-  pub measure_limit : (l : ℕ) (b : List ℕ) (r : Measured) → MeasurePromise l b r → T (not (in_force l)) → measured_is r ≡ outside
+  pub measure_limit : (l : ℕ) (b : List ℕ) (r : Result Extent Refusal) → MeasurePromise l b r → T (not (in_force l)) → measured_is r ≡ outside
   pub read_limit : (l : ℕ) (b w x : List ℕ) (r : reader.Outcome) → ReadPromise l b w x r → T (not (in_force l)) → (measured_is r.answer ≡ outside) × (r.words ≡ w) × (r.text ≡ x)
-  pub step_limit : (l : ℕ) (b : List ℕ) (i : ℕ) (r : Stepped) → StepPromise l b i r → T (not (in_force l)) → stepped_is r ≡ record { answer = outcome.refused limit_outside (at 0); at = i }
-  pub next_limit : (w x : Walker) (r : Next) → NextOf w x r → T (not (in_force w.limit)) → (step_is r.answer ≡ outcome.refused limit_outside (at 0)) × (x ≡ w)
+  pub step_limit : (l : ℕ) (b : List ℕ) (i : ℕ) (r : Answered) → StepPromise l b i r → T (not (in_force l)) → stepped_is i r ≡ record { answer = outcome.refused limit_outside (at 0); at = i }
+  pub next_limit : (w x : Walker) (r : Next) → NextOf w r x → T (not (in_force w.limit)) → (next_is w.at r ≡ outcome.refused limit_outside (at 0)) × (x ≡ w)
   -- and at a limit in force there is no 15: sizing refuses with 1 to 7, writing with 1 to 8, measuring with 3, 4 and 9 to 12, reading with these, 13 and 14, a step as measuring does
-  pub size_numbers : (l : ℕ) (w x : List ℕ) (r : Written) → SizePromise l w x r → T (in_force l) → Within of_size (written_is r)
+  pub size_numbers : (l : ℕ) (w x : List ℕ) (r : Result ℕ Refusal) → SizePromise l w x r → T (in_force l) → Within of_size (written_is r)
   pub write_numbers : (l : ℕ) (w x o : List ℕ) (r : writer.Outcome) → WritePromise l w x o r → T (in_force l) → Within of_write (written_is r.answer)
-  pub measure_numbers : (l : ℕ) (b : List ℕ) (r : Measured) → MeasurePromise l b r → T (in_force l) → Within of_measure (measured_is r)
+  pub measure_numbers : (l : ℕ) (b : List ℕ) (r : Result Extent Refusal) → MeasurePromise l b r → T (in_force l) → Within of_measure (measured_is r)
   pub read_numbers : (l : ℕ) (b w x : List ℕ) (r : reader.Outcome) → ReadPromise l b w x r → T (in_force l) → Within of_read (measured_is r.answer)
-  pub step_numbers : (l : ℕ) (b : List ℕ) (i : ℕ) (r : Stepped) → StepPromise l b i r → T (in_force l) → StepRange of_measure (step_is r.answer)
+  pub step_numbers : (l : ℕ) (b : List ℕ) (i : ℕ) (r : Answered) → StepPromise l b i r → T (in_force l) → StepRange of_measure (stepped_is i r).answer
   -- in exactly the case stated: that of sizing and measuring is in their promises, by `table` and `front` (crates/laws/specs/Demand1.antt says where each number is).
   -- Writing answers as sizing does, but for 8; reading as measuring does, but for 13 and 14; a step as measuring does of what is left, but at the end
-  pub writing : (l : ℕ) (w x o : List ℕ) (r : writer.Outcome) (s : Written) → WritePromise l w x o r → SizePromise l w x s → written_is r.answer ≡ room_for o (written_is s)
-  pub reading : (l : ℕ) (b w x : List ℕ) (r : reader.Outcome) (s : Measured) → ReadPromise l b w x r → MeasurePromise l b s → measured_is r.answer ≡ rooms_for w x (measured_is s)
-  pub stepping : (l : ℕ) (b : List ℕ) (i : ℕ) (r : Stepped) (s : Measured) → StepPromise l b i r → MeasurePromise l (drop i b) s → i < length b → stepped_is r ≡ stepped i (measured_is s)
-  pub ending : (l : ℕ) (b : List ℕ) (i : ℕ) (r : Stepped) → StepPromise l b i r → T (in_force l) → length b ≤ i → stepped_is r ≡ record { answer = outcome.end; at = i }
+  pub writing : (l : ℕ) (w x o : List ℕ) (r : writer.Outcome) (s : Result ℕ Refusal) → WritePromise l w x o r → SizePromise l w x s → written_is r.answer ≡ room_for o (written_is s)
+  pub reading : (l : ℕ) (b w x : List ℕ) (r : reader.Outcome) (s : Result Extent Refusal) → ReadPromise l b w x r → MeasurePromise l b s → measured_is r.answer ≡ rooms_for w x (measured_is s)
+  pub stepping : (l : ℕ) (b : List ℕ) (i : ℕ) (r : Answered) (s : Result Extent Refusal) → StepPromise l b i r → MeasurePromise l (drop i b) s → i < length b → stepped_is i r ≡ stepped i (measured_is s)
+  pub ending : (l : ℕ) (b : List ℕ) (i : ℕ) (r : Answered) → StepPromise l b i r → T (in_force l) → length b ≤ i → stepped_is i r ≡ record { answer = outcome.end; at = i }
   -- after a refusal all lent memory holds what it held, and a walker stays
-  pub write_keeps : (l : ℕ) (w x o : List ℕ) (r : writer.Outcome) (f : Refusal) → WritePromise l w x o r → r.answer ≡ written.Refused f → r.out ≡ o
-  pub read_keeps : (l : ℕ) (b w x : List ℕ) (r : reader.Outcome) (f : Refusal) → ReadPromise l b w x r → r.answer ≡ measured.Refused f → (r.words ≡ w) × (r.text ≡ x)
-  pub step_stays : (l : ℕ) (b : List ℕ) (i : ℕ) (r : Stepped) (f : Refusal) → StepPromise l b i r → r.answer ≡ step.Refused f → r.at ≡ i
-  pub next_stays : (w x : Walker) (r : Next) (f : Refusal) → NextOf w x r → r.answer ≡ step.Refused f → x ≡ w
+  pub write_keeps : (l : ℕ) (w x o : List ℕ) (r : writer.Outcome) (f : Refusal) → WritePromise l w x o r → r.answer ≡ Err f → r.out ≡ o
+  pub read_keeps : (l : ℕ) (b w x : List ℕ) (r : reader.Outcome) (f : Refusal) → ReadPromise l b w x r → r.answer ≡ Err f → (r.words ≡ w) × (r.text ≡ x)
+  pub step_stays : (l : ℕ) (b : List ℕ) (i : ℕ) (r : Answered) (f : Refusal) → StepPromise l b i r → r ≡ Err f → (outcome.step l b i).at ≡ i
+  pub next_stays : (w x : Walker) (r : Next) (f : Refusal) → NextOf w r x → r ≡ Some (Err f) → x ≡ w
   -- and a success touches nothing beyond what it fills
-  pub write_fills : (l : ℕ) (w x o : List ℕ) (r : writer.Outcome) (n : ℕ) → WritePromise l w x o r → r.answer ≡ written.Length n → Filled n o r.out
-  pub read_fills : (l : ℕ) (b w x : List ℕ) (r : reader.Outcome) (e : Extent) → ReadPromise l b w x r → r.answer ≡ measured.Fits e → Filled (2 * e.rows) w r.words × Filled e.text x r.text
+  pub write_fills : (l : ℕ) (w x o : List ℕ) (r : writer.Outcome) (n : ℕ) → WritePromise l w x o r → r.answer ≡ Ok n → Filled n o r.out
+  pub read_fills : (l : ℕ) (b w x : List ℕ) (r : reader.Outcome) (e : Extent) → ReadPromise l b w x r → r.answer ≡ Ok e → Filled (2 * e.rows) w r.words × Filled e.text x r.text
 
 -- The proofs
 
-output_of : (l : ℕ) (w x o : List ℕ) (r : writer.Outcome) → WritePromise l w x o r → (a : Written) → r.answer ≡ a → Output (written_is a) o r.out
+output_of : (l : ℕ) (w x o : List ℕ) (r : writer.Outcome) → WritePromise l w x o r → (a : Result ℕ Refusal) → r.answer ≡ a → Output (written_is a) o r.out
 output_of l w x o r h a e =
     subst (λ (k : Answer ℕ). Output k o r.out) (sym h.0 ∙ ap written_is e) (subst (λ (p : List ℕ). Output (outcome.write l w x o).answer o p) (sym h.1) (demand1.output l w x o))
 
-rooms_of : (l : ℕ) (b w x : List ℕ) (r : reader.Outcome) → ReadPromise l b w x r → (a : Measured) → r.answer ≡ a → Rooms (measured_is a) w r.words x r.text
+rooms_of : (l : ℕ) (b w x : List ℕ) (r : reader.Outcome) → ReadPromise l b w x r → (a : Result Extent Refusal) → r.answer ≡ a → Rooms (measured_is a) w r.words x r.text
 rooms_of l b w x r h a e =
     subst (λ (k : Answer outcome.Extent). Rooms k w r.words x r.text) (sym h.0 ∙ ap measured_is e)
     (subst (λ (u : List ℕ). Rooms (outcome.read l b w x).answer w u x r.text) (sym h.1)
     (subst (λ (y : List ℕ). Rooms (outcome.read l b w x).answer w (outcome.read l b w x).words x y) (sym h.2) (demand1.rooms l b w x)))
 
-stays_of : (l : ℕ) (b : List ℕ) (i : ℕ) (k : outcome.Step) (f : Refusal) → k ≡ (outcome.step l b i).answer → k ≡ outcome.refused f.number (at f.place) → (outcome.step l b i).at ≡ i
-stays_of l b i k f e g = demand1.stays l b i f.number (at f.place) (sym e ∙ g)
+stays_of : (l : ℕ) (b : List ℕ) (i : ℕ) (k : outcome.Step) (f : Refusal) → k ≡ (outcome.step l b i).answer → k ≡ outcome.refused (reason_is f.reason) (at f.place) → (outcome.step l b i).at ≡ i
+stays_of l b i k f e g = demand1.stays l b i (reason_is f.reason) (at f.place) (sym e ∙ g)
 
 -- a walker that was moved to its own place
 stayed : (w x : Walker) (i : ℕ) → x ≡ record { bytes = w.bytes; at = i; limit = w.limit } → i ≡ w.at → x ≡ w
@@ -223,10 +217,10 @@ demand = record {
   reading = λ l b w x r s h k. h.0 ∙ demand1.reading l b w x ∙ ap (rooms_for w x) (sym k);
   stepping = λ l b i r s h k j. h ∙ demand1.stepping l b i j ∙ ap (stepped i) (sym k);
   ending = λ l b i r h t j. h ∙ demand1.ending l b i t j;
-  write_keeps = λ l w x o r f h e. output_of l w x o r h (written.Refused f) e;
-  read_keeps = λ l b w x r f h e. rooms_of l b w x r h (measured.Refused f) e;
-  step_stays = λ l b i r f h e. ap (λ (t : outcome.Stepping). t.at) h ∙ stays_of l b i (step_is r.answer) f (ap (λ (t : outcome.Stepping). t.answer) h) (ap step_is e);
-  next_stays = λ w x r f h e. stayed w x _ h.moved (stays_of w.limit w.bytes.now w.at (step_is r.answer) f h.answer (ap step_is e));
-  write_fills = λ l w x o r n h e. output_of l w x o r h (written.Length n) e;
-  read_fills = λ l b w x r e h i. rooms_of l b w x r h (measured.Fits e) i;
+  write_keeps = λ l w x o r f h e. output_of l w x o r h (Err f) e;
+  read_keeps = λ l b w x r f h e. rooms_of l b w x r h (Err f) e;
+  step_stays = λ l b i r f h e. stays_of l b i (stepped_is i r).answer f (ap (λ (t : outcome.Stepping). t.answer) h) (ap (λ (q : Answered). (stepped_is i q).answer) e);
+  next_stays = λ w x r f h e. stayed w x _ h.moved (stays_of w.limit w.bytes.now w.at (next_is w.at r) f h.answer (ap (next_is w.at) e));
+  write_fills = λ l w x o r n h e. output_of l w x o r h (Ok n) e;
+  read_fills = λ l b w x r e h i. rooms_of l b w x r h (Ok e) i;
 }

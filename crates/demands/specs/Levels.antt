@@ -3,44 +3,42 @@
 -- The hypotheses are promises of public functions (see Demand1.antt): one call within the limit l, and one within the limit m, which is in force and not below l, of the
 -- same bytes, words and text. `Lasting` of crates/laws/specs/Levels.antt is an answer that is a value, or a refusal with another number than 3 and 15. Where the
 -- first call answers so, the second comes to the same outcome: number, place, length, rows, text, and every lent byte and word.
-use Rattle.std.specs.Prelude.{ℕ, ◌+◌, ◌≤◌, ◌≡◌, List, T}
-use Rattle.std.proofs.Common.{refl, sym, ap, subst, ◌∙◌}
+use Rattle.std.specs.Prelude.{ℕ, ◌≤◌, ◌≡◌, List, Result, T}
+use Rattle.std.proofs.Common.{sym, ap, subst, ◌∙◌}
 use Rattle.std.specs.Borrow.{Bor}
 use Rattle.standard.specs.Outcomes as outcome
 use Rattle.standard.specs.Outcomes.{in_force}
 use Rattle.laws.specs.Levels.{Lasting, LastingStep, size_lasts_lem, write_lasts_lem, measure_lasts_lem, read_lasts_lem, step_lasts_lem}
 use Rattle.writer.specs.InCode.{written_is}
-use Rattle.writer.specs.declared.Written.{Written}
 use Rattle.writer.proofs.Unique as writer
 use Rattle.writer.proofs.Unique.{SizePromise, one_size, WritePromise, one_write}
-use Rattle.reader.specs.InCode.{measured_is, step_is}
-use Rattle.reader.specs.Walking.{handed, start_of, step_of, NextOf}
-use Rattle.reader.specs.declared.measuring.Measured.{Measured}
-use Rattle.reader.specs.declared.walker.Stepped.{Stepped}
+use Rattle.standard.specs.declared.refusal.Refusal.{Refusal}
+use Rattle.reader.specs.InCode.{measured_is, stepped_is}
+use Rattle.reader.specs.Walking.{Next, NextOf, Handed, next_is, step_of}
+use Rattle.reader.specs.declared.measuring.Extent.{Extent}
 use Rattle.reader.specs.declared.walker.Walker.{Walker}
-use Rattle.reader.specs.declared.walker.Next.{Next}
 use Rattle.reader.proofs.Unique as reader
 use Rattle.reader.proofs.Unique.{MeasurePromise, one_measured, ReadPromise, one_read}
-use Rattle.reader.proofs.Walks.{StepPromise, one_stepped, one_next}
+use Rattle.reader.proofs.Walks.{Answered, StepPromise, one_stepped, one_handed}
 
 pub record Levels : Type 0 where
-  pub size_lasts : (l m : ℕ) (w x : List ℕ) (r s : Written) → SizePromise l w x r → SizePromise m w x s → l ≤ m → T (in_force m) → Lasting (written_is r) → s ≡ r
+  pub size_lasts : (l m : ℕ) (w x : List ℕ) (r s : Result ℕ Refusal) → SizePromise l w x r → SizePromise m w x s → l ≤ m → T (in_force m) → Lasting (written_is r) → s ≡ r
   pub write_lasts : (l m : ℕ) (w x o : List ℕ) (r s : writer.Outcome) → WritePromise l w x o r → WritePromise m w x o s → l ≤ m → T (in_force m) → Lasting (written_is r.answer) → s ≡ r
-  pub measure_lasts : (l m : ℕ) (b : List ℕ) (r s : Measured) → MeasurePromise l b r → MeasurePromise m b s → l ≤ m → T (in_force m) → Lasting (measured_is r) → s ≡ r
+  pub measure_lasts : (l m : ℕ) (b : List ℕ) (r s : Result Extent Refusal) → MeasurePromise l b r → MeasurePromise m b s → l ≤ m → T (in_force m) → Lasting (measured_is r) → s ≡ r
   pub read_lasts : (l m : ℕ) (b w x : List ℕ) (r s : reader.Outcome) → ReadPromise l b w x r → ReadPromise m b w x s → l ≤ m → T (in_force m) → Lasting (measured_is r.answer) → s ≡ r
-  pub step_lasts : (l m : ℕ) (b : List ℕ) (i : ℕ) (r s : Stepped) → StepPromise l b i r → StepPromise m b i s → l ≤ m → T (in_force m) → LastingStep (step_is r.answer) → s ≡ r
+  pub step_lasts : (l m : ℕ) (b : List ℕ) (i : ℕ) (r s : Answered) → StepPromise l b i r → StepPromise m b i s → l ≤ m → T (in_force m) → LastingStep (stepped_is i r).answer → s ≡ r
   -- of two walkers at the same place of the same bytes
-  pub next_lasts : (w v x y : Walker) (r s : Next) → NextOf w x r → NextOf v y s → v.bytes ≡ w.bytes → v.at ≡ w.at → w.limit ≤ v.limit → T (in_force v.limit) → LastingStep (step_is r.answer)
-      → (step_is s.answer ≡ step_is r.answer) × (s.value.now ≡ r.value.now) × (s.value.ref_ptr ≡ r.value.ref_ptr) × (y.at ≡ x.at)
+  pub next_lasts : (w v x y : Walker) (r s : Next) → NextOf w r x → NextOf v s y → v.bytes ≡ w.bytes → v.at ≡ w.at → w.limit ≤ v.limit → T (in_force v.limit) → LastingStep (next_is w.at r)
+      → (s ≡ r) × (y.at ≡ x.at)
 
 -- The proofs
 
 -- what is handed out depends on the bytes and on the step alone
 handed_same : (w v x y : Walker) (r s : Next) → NextOf w r x → NextOf v s y → v.bytes ≡ w.bytes → v.at ≡ w.at → step_of v ≡ step_of w → (s ≡ r) × (y.at ≡ x.at)
 handed_same w v x y r s h k e f q =
-    let a : next_is w s ≡ (step_of w).answer = ap (λ (i : ℕ). next_is (record { bytes = w.bytes; at = i; limit = w.limit }) s) (sym f) ∙ k.answer ∙ ap (λ (t : outcome.Stepping). t.answer) q in
+    let a : next_is w.at s ≡ (step_of w).answer = ap (λ (i : ℕ). next_is i s) (sym f) ∙ k.answer ∙ ap (λ (t : outcome.Stepping). t.answer) q in
     let b : Handed w.bytes (step_of w).answer s = subst (λ (p : Bor (List ℕ)). Handed p (step_of w).answer s) e (subst (λ (t : outcome.Stepping). Handed v.bytes t.answer s) q k.value) in
-    (sym (one_next w x (record { bytes = w.bytes; at = (step_of w).at; limit = w.limit }) r s h (record { answer = a; value = b; moved = refl })),
+    (sym (one_handed w.bytes w.at (step_of w).answer r s h.answer a h.value b),
      ap (λ (z : Walker). z.at) k.moved ∙ ap (λ (t : outcome.Stepping). t.at) q ∙ sym (ap (λ (z : Walker). z.at) h.moved))
 
 pub levels : Levels

@@ -108,7 +108,7 @@ goes_on w x (Some r) = record { on = λ f. absurd f; keeps = tt; rests = λ f. a
 
 -- no second outcome satisfies the promise of `next`: the walker afterwards, the answer, the value's bytes and their place in memory are one
 
-one_handed : (b : Bor (List ℕ)) (i : ℕ) (t : outcome.Step) (r s : Next) → next_is i r ≡ t → next_is i s ≡ t → Handed b t r → Handed b t s → r ≡ s
+pub one_handed : (b : Bor (List ℕ)) (i : ℕ) (t : outcome.Step) (r s : Next) → next_is i r ≡ t → next_is i s ≡ t → Handed b t r → Handed b t s → r ≡ s
 one_handed b i t None None e f h k = refl
 one_handed b i t None (Some (Ok q)) e f h k = ends_not (e ∙ sym f)
 one_handed b i t None (Some (Err g)) e f h k = ends_no_refusal (e ∙ sym f)

@@ -2,6 +2,7 @@
 //
 // `step_within` does the work on a level limit, bytes and a place that the caller keeps. `Walker` keeps all three.
 ghost use Rattle.std.specs.Prelude.{◌≡◌};
+ghost use Rattle.std.specs.Iterator.{MakesProgress, endless};
 ghost use Rattle.standard.specs.Outcomes as outcome;
 ghost use Rattle.standard.specs.Outcomes.{level_default};
 ghost use Rattle.reader.specs.InCode.{stepped_is};
@@ -71,7 +72,10 @@ impl<'a> Iterator for Walker<'a> {
 
     ghost next_gives = { NextOf };
 
-    fn next(&mut self) -> Option<Result<&'a [u8], Refusal>> {
+    fn next(&mut self) -> Option<Result<&'a [u8], Refusal>>
+        ensures steps { NextOf self.old result self.new }
+        ensures goes { MakesProgress (λ _. Unit {0}) (λ _. endless) self.old result self.new }
+    {
         match step_within(self.limit, self.bytes, self.at) {
             Ok(None) => None,
             Ok(Some(part)) => {
