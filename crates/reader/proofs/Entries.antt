@@ -15,7 +15,7 @@ use Rattle.standard.specs.InCode.{kind_is, layout_is, entry_is}
 use Rattle.standard.specs.declared.format_code.Layout.{Layout}
 use Rattle.standard.specs.declared.format_code.Entry.{Entry}
 use Rattle.standard.specs.Facts.{T_true, T_false, and_left, and_right, if_case}
-use Rattle.reader.specs.Entries.{narrow, usual, judged, sure, plain_code, plain_width, short_code}
+use Rattle.reader.specs.Entries.{narrow, judged, sure, plain_code, plain_width, short_code}
 use Rattle.reader.specs.Measuring.{is_compound}
 
 all : {A : Type 0} → (A → Bool) → List A → Bool
@@ -50,10 +50,6 @@ either x y t e = rw e at t
 -- a narrow width that is not one is four
 pub narrow_four : (w : ℕ) → T (narrow w) → (w ≡ 1 → ⊥) → w ≡ 4
 narrow_four w t h = eqb→eq w 4 (either (eqb w 1) (eqb w 4) t (ne_eqb w 1 h))
-
--- a usual width that is none of 0, 2 and 8 is narrow
-pub usual_narrow : (w : ℕ) → T (usual w) → (w ≡ 0 → ⊥) → (w ≡ 2 → ⊥) → (w ≡ 8 → ⊥) → T (narrow w)
-usual_narrow w t h i j = either (eqb w 8) (narrow w) (either (eqb w 2) _ (either (eqb w 0) _ t (ne_eqb w 0 h)) (ne_eqb w 2 i)) (ne_eqb w 8 j)
 
 pub four_or_eight : (w : ℕ) → T (eqb w 4 || eqb w 8) → (w ≡ 4 → ⊥) → w ≡ 8
 four_or_eight w t h = eqb→eq w 8 (either (eqb w 4) (eqb w 8) t (ne_eqb w 4 h))

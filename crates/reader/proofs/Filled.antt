@@ -1,5 +1,5 @@
 -- Filling, turn by turn: what is left from a place on comes to what was due at the start.
-use Rattle.std.specs.Prelude.{ℕ, zero, suc, ◌+◌, ◌*◌, ◌-◌, ◌≤◌, ◌<◌, ◌≡◌, refl, List, [], ◌∷◌, ◌++◌, Bool, true, false, ltb, length, take, drop, set}
+use Rattle.std.specs.Prelude.{ℕ, zero, suc, ◌+◌, ◌*◌, ◌-◌, ◌≤◌, ◌<◌, ◌≡◌, refl, List, [], ◌∷◌, ◌++◌, Bool, true, false, None, ltb, length, take, drop, set}
 use Rattle.std.proofs.Common.{sym, ap, ◌∙◌, arith, ltb-true, length-append, length-drop, length-set, length-take-le, drop-drop, append_assoc}
 use borrow.Rule.Slice.PartMut.{put_mid}
 use lib.Seq.{sets, length-sets, sets-eq}
@@ -10,12 +10,13 @@ use Rattle.standard.specs.Outcomes.{level_most, over}
 use Rattle.standard.specs.InCode.{kind_is}
 use Rattle.laws.specs.Bounds.{rows_length}
 use Rattle.laws.specs.Stores.{put_on, front_over}
-use Rattle.laws.specs.Flat.{Head, own, Run, run, push, Step, step_of, flat}
+use Rattle.laws.specs.Flat.{Head, Run, run, push, Step, step_of, flat}
 use Rattle.laws.specs.Flow.{read_flow}
-use Rattle.reader.specs.Runs.{head_is, kept_is}
-use Rattle.reader.specs.Filling.{Lands, due_is, step_is, RowFound, Fillable, rows_in, text_in}
+use Rattle.reader.specs.Runs.{head_is}
+use Rattle.reader.specs.Filling.{Lands, below_is, due_is, step_is, RowFound, Fillable, rows_in, text_in}
 use Rattle.reader.specs.declared.filling.Row.{Row}
-use Rattle.reader.specs.declared.due.Due.{Due}
+use Rattle.reader.specs.declared.due.Run as code
+use Rattle.reader.specs.declared.due.Below.{Below}
 use Rattle.reader.proofs.Runs.{push_one}
 
 -- The flat reading, where it does not get stuck
@@ -71,12 +72,12 @@ turn l (suc n) k h t b rs ts i e =
     }
 
 -- At row k of n: at place i of the bytes and place j of the text. W and X are what words and text are to hold in the end
-pub record Going (bytes : List ℕ) (n : ℕ) (W X words letters : List ℕ) (d : Due) (i j k : ℕ) : Type 0 where
+pub record Going (bytes : List ℕ) (n : ℕ) (W X words letters : List ℕ) (t : code.Run) (d : Below) (i j k : ℕ) : Type 0 where
   pub here : i ≤ length bytes
   pub row_room : 2 * n ≤ length words
   pub due_rows : List ℕ
   pub due_text : List ℕ
-  pub due : flat level_most (n - k) (due_is d) (drop i bytes) ≡ got (due_rows, due_text)
+  pub due : flat level_most (n - k) (due_is t d) (drop i bytes) ≡ got (due_rows, due_text)
   pub is_rows : sets words (2 * k) due_rows ≡ W
   pub is_text : sets letters j due_text ≡ X
   pub text_room : j + length due_text ≤ length letters
@@ -93,15 +94,8 @@ stored l ys zs j g q =
     let f : j + length ys - j ≡ length ys = omega arith in
     rw (q, f, sets-eq ys l j g, drop-drop (length ys) j l) (sym (append_assoc (take j l) ys (drop (j + length ys) l)))
 
--- the text of a row is so many bytes, from a place on
-pub slice_of : (i n : ℕ) (b : List ℕ) → take (i + n - i) (drop i b) ≡ take n (drop i b)
-slice_of i n b = let e : i + n - i ≡ n = omega arith in ap (λ m. take m (drop i b)) e
-
-pub slice_length : (i n : ℕ) (b : List ℕ) → i + n ≤ length b → length (take (i + n - i) (drop i b)) ≡ n
-slice_length i n b h = ap length (slice_of i n b) ∙ length-take-le n (drop i b) (omega (arith, length-drop i b))
-
-pub begin : (bytes words letters : List ℕ) (n : ℕ) (d : Due) → due_is d ≡ push 1 own [] → Fillable bytes words letters n →
-    Going bytes n (over (rows_in (front level_most bytes)) words) (over (text_in (front level_most bytes)) letters) words letters d 0 0 0
+pub begin : (bytes words letters : List ℕ) (n : ℕ) (d : Below) → below_is d ≡ [] → Fillable bytes words letters n →
+    Going bytes n (over (rows_in (front level_most bytes)) words) (over (text_in (front level_most bytes)) letters) words letters (record { left = 1; code = None }) d 0 0 0
 unfolding push
 begin bytes words letters n d e f =
     let v = f.tree in
@@ -117,32 +111,32 @@ begin bytes words letters n d e f =
       text_room = omega (arith, f.text_room);
     }
 
-pub end : {bytes : List ℕ} {n : ℕ} {W X words letters : List ℕ} {d : Due} {i j k : ℕ} → Going bytes n W X words letters d i j k → n ≤ k → (words ≡ W) × (letters ≡ X)
+pub end : {bytes : List ℕ} {n : ℕ} {W X words letters : List ℕ} {t : code.Run} {d : Below} {i j k : ℕ} → Going bytes n W X words letters t d i j k → n ≤ k → (words ≡ W) × (letters ≡ X)
 unfolding flat
 end {n = n} {words = words} {letters = letters} {j = j} {k = k} g h =
     let z : n - k ≡ 0 = omega arith in
     let q = both [] [] g.due_rows g.due_text (rw (z, flat) at g.due) in
     (ap (sets words (2 * k)) q.0 ∙ g.is_rows, ap (sets letters j) q.1 ∙ g.is_text)
 
-module _ {bytes : List ℕ} {n : ℕ} {W X words letters : List ℕ} {d : Due} {i j k : ℕ} (g : Going bytes n W X words letters d i j k) (h : k < n) where
-  pub some_due : 1 ≤ length (due_is d)
-  some_due = flat_some level_most (n - k) (due_is d) (drop i bytes) (g.due_rows, g.due_text) (omega arith) g.due
+module _ {bytes : List ℕ} {n : ℕ} {W X words letters : List ℕ} {t : code.Run} {d : Below} {i j k : ℕ} (g : Going bytes n W X words letters t d i j k) (h : k < n) where
+  pub some_due : 1 ≤ length (due_is t d)
+  some_due = flat_some level_most (n - k) (due_is t d) (drop i bytes) (g.due_rows, g.due_text) (omega arith) g.due
 
   -- with a value in the run on top
-  module _ (e : Due) (t : (1 ≤ e.top.left) × (due_is e ≡ due_is d)) where
-    turned : Turn level_most (n - k) (e.top.left - 1) (head_is e.top.code) (kept_is e.below e.kept) (drop i bytes) g.due_rows g.due_text
+  module _ (u : code.Run) (e : Below) (v : (1 ≤ u.left) × (due_is u e ≡ due_is t d)) where
+    turned : Turn level_most (n - k) (u.left - 1) (head_is u.code) (below_is e) (drop i bytes) g.due_rows g.due_text
     turned =
-        let q = sym (push_one e.top.left (head_is e.top.code) (kept_is e.below e.kept) t.0) ∙ t.1 in
-        turn level_most (n - k) (e.top.left - 1) (head_is e.top.code) (kept_is e.below e.kept) (drop i bytes) g.due_rows g.due_text (omega arith) (ap (λ x. flat level_most (n - k) x (drop i bytes)) q ∙ g.due)
+        let q = sym (push_one u.left (head_is u.code) (below_is e) v.0) ∙ v.1 in
+        turn level_most (n - k) (u.left - 1) (head_is u.code) (below_is e) (drop i bytes) g.due_rows g.due_text (omega arith) (ap (λ x. flat level_most (n - k) x (drop i bytes)) q ∙ g.due)
 
-    pub row_lands : Lands (step_of (head_is e.top.code) (drop i bytes))
+    pub row_lands : Lands (step_of (head_is u.code) (drop i bytes))
     row_lands = rw turned.is tt
 
-    pub few_kept : e.kept < level_most
-    few_kept = omega (arith, turned.few, e.full)
+    pub few_kept : length (below_is e) < level_most
+    few_kept = turned.few
 
     -- with the row
-    module _ {r : Row} (s : RowFound bytes (step_of (head_is e.top.code) (drop i bytes)) r) where
+    module _ {r : Row} (s : RowFound bytes (step_of (head_is u.code) (drop i bytes)) r) where
       is_step : got turned.step ≡ step_is bytes r
       is_step = sym turned.is ∙ s.step
 
@@ -162,19 +156,27 @@ module _ {bytes : List ℕ} {n : ℕ} {W X words letters : List ℕ} {d : Due} {
       all_fits : j + r.text + length turned.more_text ≤ length letters
       all_fits = omega (arith, g.text_room, ap length text_due, length-append part turned.more_text, part_length)
 
-      pub text_fits_lem : j + r.text ≤ length letters
-      text_fits_lem = omega (arith, all_fits)
+      -- and as the code takes it
+      abbrev taken : List ℕ
+      taken = take (r.from + r.text - r.from) (drop r.from bytes)
+
+      taken_is : taken ≡ part
+      taken_is = let e : r.from + r.text - r.from ≡ r.text = omega arith in rw e
+
+      pub text_fits_lem : j + length taken ≤ length letters
+      text_fits_lem = rw taken_is (omega (arith, all_fits, part_length))
 
       rows_due : g.due_rows ≡ kind_is r.kind ∷ r.number ∷ turned.more_rows
       rows_due = turned.is_rows ∙ cc is_step
 
-      rest_due : flat level_most (n - k - 1) (push r.children.left (head_is r.children.code) (push (e.top.left - 1) (head_is e.top.code) (kept_is e.below e.kept))) (drop (r.from + r.text) bytes) ≡ got (turned.more_rows, turned.more_text)
+      rest_due : flat level_most (n - k - 1) (push r.children.left (head_is r.children.code) (push (u.left - 1) (head_is u.code) (below_is e))) (drop (r.from + r.text) bytes) ≡ got (turned.more_rows, turned.more_text)
       rest_due = cc (is_step, turned.due)
 
-      pub again : {letters₁ : List ℕ} {d₁ : Due} → letters₁ ≡ sets letters j part →
-          due_is d₁ ≡ push r.children.left (head_is r.children.code) (push (e.top.left - 1) (head_is e.top.code) (kept_is e.below e.kept)) →
-          Going bytes n W X (set (set words (2 * k) (kind_is r.kind)) (2 * k + 1) r.number) letters₁ d₁ (r.from + r.text) (j + r.text) (k + 1)
-      again {letters₁ = letters₁} p z =
+      pub again : {letters₁ : List ℕ} {t₁ : code.Run} {d₁ : Below} → letters₁ ≡ sets letters j taken →
+          due_is t₁ d₁ ≡ push r.children.left (head_is r.children.code) (push (u.left - 1) (head_is u.code) (below_is e)) →
+          Going bytes n W X (set (set words (2 * k) (kind_is r.kind)) (2 * k + 1) r.number) letters₁ t₁ d₁ (r.from + r.text) (j + r.text) (k + 1)
+      again {letters₁ = letters₁} q z =
+          let p : letters₁ ≡ sets letters j part = rw taken_is at q in
           let m : n - (k + 1) ≡ n - k - 1 = omega arith in
           record {
             here = s.inside;

@@ -11,16 +11,20 @@ use Rattle.standard.specs.declared.kind.Kind.{Kind}
 use Rattle.laws.specs.Flat.{Run, push, Step, row}
 use Rattle.reader.specs.Runs.{head_is, kept_is}
 use Rattle.reader.specs.declared.filling.Row.{Row}
-use Rattle.reader.specs.declared.due.Due.{Due}
+use Rattle.reader.specs.declared.due.Run as code
+use Rattle.reader.specs.declared.due.Below.{Below}
 
 -- not refused
 abbrev pub Lands : {A : Type 0} → Answer A → Type 0
 Lands (got a) = Unit {0}
 Lands (refuse x p) = ⊥
 
--- the runs that are due
-abbrev pub due_is : Due → List Run
-due_is d = push d.top.left (head_is d.top.code) (kept_is d.below d.kept)
+-- the runs that are due below the one on top, and with it
+abbrev pub below_is : Below → List Run
+below_is b = kept_is b.runs b.kept
+
+abbrev pub due_is : code.Run → Below → List Run
+due_is t b = push t.left (head_is t.code) (below_is b)
 
 -- Rows
 

@@ -1,5 +1,5 @@
 -- What the walker hands out, and where it is afterwards (docs/FORMAT.md, 7): all by what the step at its place is (standard/specs/Outcomes.antt).
-use Rattle.std.specs.Prelude.{ℕ, ◌+◌, ◌≤◌, ◌≡◌, List, [], Option, Some, None, Result, Ok, Err, length, take, drop}
+use Rattle.std.specs.Prelude.{ℕ, ◌+◌, ◌≡◌, List, [], Option, Some, None, Result, Ok, Err, length, take, drop}
 use Rattle.std.specs.Borrow.{Bor}
 use Rattle.standard.specs.Answer.{at}
 use Rattle.standard.specs.Outcomes.{Step, end, part, refused, Stepping, step}
@@ -26,12 +26,6 @@ abbrev pub start_of : Step → ℕ
 start_of end = 0
 start_of (part i n) = i
 start_of (refused x p) = 0
-
--- it lies in so many bytes
-abbrev pub Inside : (bytes : ℕ) → Step → Type 0
-Inside m end = Unit {0}
-Inside m (part i n) = i + n ≤ m
-Inside m (refused x p) = Unit {0}
 
 -- p is what a step hands out of b: its bytes, and where they lie in memory
 pub record Part (b : Bor (List ℕ)) (s : Step) (p : Bor (List ℕ)) : Type 0 where

@@ -1,5 +1,5 @@
-// What is due in filling: a stack of runs of values. A run that is used up is not kept, so there are never more runs than a value
-// has levels.
+// What is due in filling: a stack of runs of values, the one on top beside it. A run that is used up is not kept, so there are never
+// more runs than a value has levels.
 ghost use Rattle.std.specs.Prelude.{◌≡◌, ◌≤◌, length};
 ghost use Rattle.standard.specs.Outcomes.{level_most};
 ghost use Rattle.reader.specs.Runs.{kept_is};
@@ -14,64 +14,64 @@ pub struct Run {
     pub code: Option<u8>,
 }
 
-// The run on top, and how many are kept below it, the last of them next.
+// The runs below the one on top, the last of them next.
 #[derive(Clone, Copy)]
-pub struct Due {
-    pub top: Run,
-    below: [Run; limit::MOST],
+pub struct Below {
+    runs: [Run; limit::MOST],
     kept: usize,
-    ghost full: { length (kept_is below kept) ≡ kept },
+    ghost full: { length (kept_is runs kept) ≡ kept },
     ghost few: { kept ≤ level_most },
 }
 
-impl Due {
-    ghost use Rattle.std.specs.Prelude.{◌-◌, ◌<◌, [], None};
+impl Below {
+    ghost use Rattle.std.specs.Prelude.{◌-◌, ◌<◌, []};
     ghost use Rattle.laws.specs.Flat.{push};
     ghost use Rattle.reader.specs.Runs.{head_is};
-    ghost use Rattle.reader.specs.Filling.{due_is};
+    ghost use Rattle.reader.specs.Filling.{below_is, due_is};
 
-    // One value, which begins with its own code.
-    pub fn one() -> Due
-        ensures { due_is result ≡ push 1 (head_is None) [] }
+    #[tactic(auto, unfolding(crate::specs::Runs::kept_is))]
+    pub fn none() -> Below
+        ensures { below_is result ≡ [] }
     {
-        let none = Run {
-            left: 0,
-            code: None,
-        };
-        Due {
-            top: Run {
-                left: 1,
+        Below {
+            runs: [Run {
+                left: 0,
                 code: None,
-            },
-            below: [none; limit::MOST],
+            }; limit::MOST],
             kept: 0,
         }
     }
 
-    // Brings a run that has a value to the top: where the one on top is used up, the last that is kept.
-    pub fn next_run(&mut self)
-        requires { 1 ≤ length (due_is self.old) }
-        ensures { (1 ≤ self.new.top.left) × (due_is self.new ≡ due_is self.old) }
+    // A run that has a value: the one on top, or where that is used up, the last that is kept.
+    #[tactic(auto, using(crate::proofs::Runs::some_kept, crate::proofs::Runs::popped, crate::proofs::Runs::still_full, crate::proofs::Runs::last_some))]
+    pub fn next_run(&mut self, top: Run) -> Run
+        requires { 1 ≤ length (due_is top self.old) }
+        ensures { (1 ≤ result.left) × (due_is result self.new ≡ due_is top self.old) }
     {
-        if self.top.left == 0 {
-            self.kept -= 1;
-            self.top = self.below[self.kept];
+        if 0 < top.left {
+            return top;
         }
+        self.kept -= 1;
+        self.runs[self.kept]
     }
 
-    // Takes the first value of the run on top away, and puts a run of its children before the others.
-    pub fn after_row(&mut self, children: Run)
-        requires { (1 ≤ self.old.top.left) × (self.old.kept < level_most) }
-        ensures { due_is self.new ≡ push children.left (head_is children.code) (push (self.old.top.left - 1) (head_is self.old.top.code) (kept_is self.old.below self.old.kept)) }
+    // What is on top once the first value of that run is read: its children, if it has any, and then the others.
+    #[tactic(auto, unfolding(laws::specs::Flat::push), using(crate::proofs::Runs::kept_more, crate::proofs::Runs::more_full, crate::proofs::Runs::push_none))]
+    pub fn after_row(&mut self, top: Run, children: Run) -> Run
+        requires { (1 ≤ top.left) × (length (below_is self.old) < level_most) }
+        ensures { due_is result self.new ≡ push children.left (head_is children.code) (push (top.left - 1) (head_is top.code) (below_is self.old)) }
     {
-        self.top.left -= 1;
+        let rest = Run {
+            left: top.left - 1,
+            code: top.code,
+        };
         if children.left == 0 {
-            return;
+            return rest;
         }
-        if self.top.left != 0 {
-            self.below[self.kept] = self.top;
+        if 0 < rest.left {
+            self.runs[self.kept] = rest;
             self.kept += 1;
         }
-        self.top = children;
+        children
     }
 }

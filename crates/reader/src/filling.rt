@@ -14,9 +14,9 @@ ghost use Rattle.reader.specs.Entries.{narrow, usual};
 ghost use Rattle.reader.specs.Runs.{head_is};
 ghost use Rattle.reader.specs.Filling.{Lands, leaf_row, parent_row, RowFound, Fillable, rows_in, text_in};
 
-use crate::due::{Due, Run};
+use crate::due::{Below, Run};
 use crate::number::{narrow_at, number_at};
-use standard::format_code::Layout;
+use standard::format_code::{Compound8, Compound32, Layout};
 use standard::kind::Kind;
 use standard::{format_code, kind};
 
@@ -32,6 +32,7 @@ pub struct Row {
 }
 
 // A byte, two's complement, in four or eight bytes.
+#[tactic(auto, unfolding(standard::specs::Grammar::extend, standard::specs::Grammar::negative))]
 fn extended(byte: u64, width: usize) -> u64
     requires { (byte < 256) × ((width ≡ 4 → ⊥) → width ≡ 8) }
     ensures { result ≡ extend width byte }
@@ -77,26 +78,38 @@ fn parent(kind: Kind, count: u64, from: usize) -> Row
     }
 }
 
-// The kind of an element code.
-fn element_kind(code: u8) -> Kind
+// The number of an element code's kind: the code itself, where it is that of the wide form. Looking the entry up takes longer.
+#[tactic(auto, unfolding(standard::specs::Codes::entry_of, standard::specs::Codes::codes, standard::specs::Choose::lookup))]
+fn element_kind(code: u8) -> u64
     requires { T (element (layout_of code)) }
-    ensures { kind_is result ≡ kind_of code }
+    ensures { result ≡ kind_of code }
 {
-    match format_code::entry_of(code) {
-        Some(entry) => entry.kind,
-        None => unreachable!(),
+    match code {
+        format_code::SMALL_UINT => u64::from(Kind::Uint),
+        format_code::SMALL_ULONG => u64::from(Kind::Ulong),
+        format_code::SMALL_INT => u64::from(Kind::Int),
+        format_code::SMALL_LONG => u64::from(Kind::Long),
+        format_code::BINARY_8 => u64::from(Kind::Binary),
+        format_code::STRING_8 => u64::from(Kind::String),
+        format_code::SYMBOL_8 => u64::from(Kind::Symbol),
+        format_code::LIST_8 => u64::from(Kind::List),
+        format_code::MAP_8 => u64::from(Kind::Map),
+        format_code::ARRAY_8 => u64::from(Kind::Array),
+        _ => u64::from(code),
     }
 }
 
 // The number of an array's row: how many elements it has, and their kind, by their code.
+#[tactic(auto, unfolding(standard::specs::Kinds::named), using(laws::specs::Bounds::kind_byte))]
 fn array_number(count: u64, code: u8) -> u64
     requires { (count < 2 ^ 32) × T (element (layout_of code)) }
     ensures { result ≡ named count (kind_of code) }
 {
-    count + kind::KIND_UNIT * u64::from(element_kind(code))
+    count + kind::KIND_UNIT * element_kind(code)
 }
 
 // The row of an array, behind its code. The first byte of its body, if there is one, is the elements' code.
+#[tactic(auto, using(crate::proofs::RowSteps::array_fits, crate::proofs::RowSteps::empty_row, crate::proofs::RowSteps::items_fit, crate::proofs::RowSteps::items_element, crate::proofs::RowSteps::items_row))]
 fn array_row(bytes: &[u8], at: usize, kind: Kind, width: usize) -> Row
     requires { T (narrow width) × (at ≤ length bytes.now) × Lands (behind_step (kind_is kind) (drop at bytes.now) (array width)) }
     ensures { RowFound bytes.now (behind_step (kind_is kind) (drop at bytes.now) (array width)) result }
@@ -121,6 +134,7 @@ fn array_row(bytes: &[u8], at: usize, kind: Kind, width: usize) -> Row
 }
 
 // The row of a number, behind its code.
+#[tactic(auto, using(crate::proofs::RowSteps::first_fits, crate::proofs::RowSteps::whole_row))]
 fn whole_row(bytes: &[u8], at: usize, kind: Kind, width: usize) -> Row
     requires { T (usual width) × (at ≤ length bytes.now) × Lands (behind_step (kind_is kind) (drop at bytes.now) (scalar (whole width))) }
     ensures { RowFound bytes.now (behind_step (kind_is kind) (drop at bytes.now) (scalar (whole width))) result }
@@ -129,6 +143,7 @@ fn whole_row(bytes: &[u8], at: usize, kind: Kind, width: usize) -> Row
 }
 
 // The row of a number of one byte, two's complement.
+#[tactic(auto, using(crate::proofs::RowSteps::first_fits, crate::proofs::RowSteps::small_row, crate::proofs::Entries::four_or_eight))]
 fn small_row(bytes: &[u8], at: usize, kind: Kind, width: usize) -> Row
     requires { T (eqb width 4 || eqb width 8) × (at ≤ length bytes.now) × Lands (behind_step (kind_is kind) (drop at bytes.now) (scalar (small width))) }
     ensures { RowFound bytes.now (behind_step (kind_is kind) (drop at bytes.now) (scalar (small width))) result }
@@ -137,6 +152,7 @@ fn small_row(bytes: &[u8], at: usize, kind: Kind, width: usize) -> Row
 }
 
 // The row of a text, behind its code.
+#[tactic(auto, using(crate::proofs::RowSteps::first_fits, crate::proofs::RowSteps::sized_row))]
 fn sized_row(bytes: &[u8], at: usize, kind: Kind, width: usize) -> Row
     requires { T (narrow width) × (at ≤ length bytes.now) × Lands (behind_step (kind_is kind) (drop at bytes.now) (scalar (sized width))) }
     ensures { RowFound bytes.now (behind_step (kind_is kind) (drop at bytes.now) (scalar (sized width))) result }
@@ -146,6 +162,7 @@ fn sized_row(bytes: &[u8], at: usize, kind: Kind, width: usize) -> Row
 }
 
 // The row of a list or a map, behind its code.
+#[tactic(auto, using(crate::proofs::RowSteps::compound_fits, crate::proofs::RowSteps::compound_row))]
 fn compound_row(bytes: &[u8], at: usize, kind: Kind, width: usize) -> Row
     requires { T (narrow width) × (at ≤ length bytes.now) × Lands (behind_step (kind_is kind) (drop at bytes.now) (compound width)) }
     ensures { RowFound bytes.now (behind_step (kind_is kind) (drop at bytes.now) (compound width)) result }
@@ -155,6 +172,7 @@ fn compound_row(bytes: &[u8], at: usize, kind: Kind, width: usize) -> Row
 }
 
 // The row of what stands behind a code, by its entry.
+#[tactic(auto, unfolding(crate::specs::Entries::sure), using(crate::proofs::RowSteps::entered, crate::proofs::RowSteps::entry_there, crate::proofs::RowSteps::constant_row, crate::proofs::RowSteps::raw_row, crate::proofs::RowSteps::described_row, standard::specs::Facts::and_left, standard::specs::Facts::and_right))]
 fn entry_row(bytes: &[u8], at: usize, code: u8) -> Row
     requires { (at ≤ length bytes.now) × Lands (behind_step (kind_of code) (drop at bytes.now) (layout_of code)) }
     ensures { RowFound bytes.now (behind_step (kind_of code) (drop at bytes.now) (layout_of code)) result }
@@ -202,35 +220,16 @@ fn row_behind(bytes: &[u8], at: usize, code: u8) -> Row
         format_code::BINARY_8 => sized_row(bytes, at, Kind::Binary, 1),
         format_code::STRING_8 => sized_row(bytes, at, Kind::String, 1),
         format_code::SYMBOL_8 => sized_row(bytes, at, Kind::Symbol, 1),
-        format_code::LIST_8 => compound_row(
-            bytes,
-            at,
-            Kind::List,
-            format_code::Compound8::COUNT_WIDTH,
-        ),
-        format_code::MAP_8 => compound_row(
-            bytes,
-            at,
-            Kind::Map,
-            format_code::Compound8::COUNT_WIDTH,
-        ),
-        format_code::LIST_32 => compound_row(
-            bytes,
-            at,
-            Kind::List,
-            format_code::Compound32::COUNT_WIDTH,
-        ),
-        format_code::MAP_32 => compound_row(
-            bytes,
-            at,
-            Kind::Map,
-            format_code::Compound32::COUNT_WIDTH,
-        ),
+        format_code::LIST_8 => compound_row(bytes, at, Kind::List, Compound8::COUNT_WIDTH),
+        format_code::MAP_8 => compound_row(bytes, at, Kind::Map, Compound8::COUNT_WIDTH),
+        format_code::LIST_32 => compound_row(bytes, at, Kind::List, Compound32::COUNT_WIDTH),
+        format_code::MAP_32 => compound_row(bytes, at, Kind::Map, Compound32::COUNT_WIDTH),
         _ => entry_row(bytes, at, code),
     }
 }
 
 // The row of the next value, which stands behind that code or begins with its own.
+#[tactic(auto, unfolding(laws::specs::Flat::step_of), using(crate::proofs::RowSteps::code_fits, crate::proofs::RowSteps::begins_with))]
 fn row_at(bytes: &[u8], at: usize, code: Option<u8>) -> Row
     requires { (at ≤ length bytes.now) × Lands (step_of (head_is code) (drop at bytes.now)) }
     ensures { RowFound bytes.now (step_of (head_is code) (drop at bytes.now)) result }
@@ -254,23 +253,28 @@ fn put_text(text: &mut [u8], at: usize, letters: &[u8])
 }
 
 // Fills words and text from the value at the front of the bytes, which has so many rows.
+#[tactic(auto, using(crate::proofs::Filled::begin))]
 pub(crate) fn fill(bytes: &[u8], words: &mut [u64], text: &mut [u8], rows: usize)
     requires { Fillable bytes.now words.old text.old rows }
     ensures { (words.new ≡ over (rows_in (front level_most bytes.now)) words.old)
         × (text.new ≡ over (text_in (front level_most bytes.now)) text.old) }
 {
-    let mut due = Due::one();
+    let mut below = Below::none();
+    let mut top = Run {
+        left: 1,
+        code: None,
+    };
     let mut at: usize = 0;
     let mut letters: usize = 0;
     for row in 0..rows {
-        due.next_run();
-        let r = row_at(bytes, at, due.top.code);
+        top = below.next_run(top);
+        let r = row_at(bytes, at, top.code);
         let k = 2 * row;
         words[k] = u64::from(r.kind);
         words[k + 1] = r.number;
         at = r.from + r.text;
         put_text(text, letters, &bytes[r.from..at]);
-        due.after_row(r.children);
+        top = below.after_row(top, r.children);
         letters += r.text;
     }
 }

@@ -23,6 +23,7 @@ pub(crate) fn narrow_at(bytes: &[u8], at: usize, width: usize) -> u64
 }
 
 // A number of any width of the format.
+#[tactic(auto, unfolding(standard::specs::Bytes::spell), using(crate::proofs::Numbers::big_at))]
 pub(crate) fn number_at(bytes: &[u8], at: usize, width: usize) -> u64
     requires { T (usual width) × (at + width ≤ length bytes.now) }
     ensures { result ≡ unbe (take width (drop at bytes.now)) }

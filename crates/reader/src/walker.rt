@@ -14,6 +14,7 @@ use std::ops::Range;
 
 // A step at a place of the bytes within a level limit: the part of the bytes that the value there is, or none at the end of them,
 // or beyond it. A limit that may not be named is refused even there. The place of a refusal counts from the place of the step.
+#[tactic(auto, using(laws::specs::Demand1::step_outside, laws::specs::Demand1::step_end))]
 pub fn step_within(limit: usize, bytes: &[u8], at: usize) -> Result<Option<Range<usize>>, Refusal>
     ensures { stepped_is at result ≡ outcome.step limit bytes.now at }
 {
@@ -72,6 +73,7 @@ impl<'a> Iterator for Walker<'a> {
 
     ghost next_gives = { NextOf };
 
+    #[tactic(auto, using(crate::proofs::Stepping::value_placed, crate::proofs::Stepping::value_next))]
     fn next(&mut self) -> Option<Result<&'a [u8], Refusal>>
         ensures steps { NextOf self.old result self.new }
         ensures goes { MakesProgress (λ _. Unit {0}) (λ _. endless) self.old result self.new }

@@ -7,4 +7,4 @@ use Rattle.reader.proofs.Filled.{Going}
 use Rattle.reader.proofs.filling.fill.Given as goal
 
 abbrev pub invariant-loop-row : goal.invariant-loop-row
-invariant-loop-row l = (length l.words ≡ length l.initial.words) × (length l.text ≡ length l.initial.text) × Going l.bytes l.rows (over (rows_in (front level_most l.bytes)) l.initial.words) (over (text_in (front level_most l.bytes)) l.initial.text) l.words l.text l.due l.at l.letters l.row
+invariant-loop-row l = (length l.words ≡ length l.initial.words) × (length l.text ≡ length l.initial.text) × Going l.bytes l.rows (over (rows_in (front level_most l.bytes)) l.initial.words) (over (text_in (front level_most l.bytes)) l.initial.text) l.words l.text l.top l.below l.at l.letters l.row

@@ -1,17 +1,9 @@
 -- `step_within` measures what is left, where the limit may be named and something is left.
-use Rattle.std.proofs.Common.{◌≡◌, ◌+◌, ◌-◌, sym, ◌∙◌, arith}
+use Rattle.std.proofs.Common.{◌≡◌, ◌+◌, ◌-◌, arith}
 use Rattle.std.proofs.lemmas.Result.{err_from_is_err_and}
 use Rattle.standard.specs.Outcomes.{stepped}
-use Rattle.standard.specs.Facts.{true_T, false_T}
-use Rattle.laws.specs.Demand1.{step_outside, step_end}
 use Rattle.reader.proofs.Stepping.{steps, ends_within}
 use Rattle.reader.proofs.walker.step_within.Goals as goal
-
-pub returns-then-not-is_in_force : goal.returns-then-not-is_in_force
-returns-then-not-is_in_force c = sym (step_outside _ _ _ (false_T _ (sym c.is_in_force.ensures ∙ c.if-not-is_in_force.true)))
-
-pub returns-then-bytes-at : goal.returns-then-bytes-at
-returns-then-bytes-at c = sym (step_end _ _ _ (true_T _ (sym c.is_in_force.ensures ∙ c.if-not-is_in_force.false)) c.if-bytes-at.true)
 
 pub returns-in_err-extent : goal.returns-in_err-extent
 unfolding stepped
