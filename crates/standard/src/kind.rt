@@ -56,6 +56,8 @@ impl TryFrom<u64> for Kind {
 
     ghost try_from_gives = { Names };
 
+    // In line it is one jump with the match on the kind that follows it.
+    #[inline(always)]
     #[tactic(auto, unfolding(crate::specs::Kinds::style_of, crate::specs::Kinds::kinds, crate::specs::Choose::lookup, crate::specs::Kinds::is_kind))]
     fn try_from(number: u64) -> Result<Self, UnknownKind> {
         match number {

@@ -420,5 +420,5 @@ bare_fits w st c h = omega (arith, h.small, bare_small c.mode (kind_on w c) (num
 
 pub past_asks : (w : List ℕ) (st : Stack) (c : Point) → Ready w st c → (y m : ℕ) → y ≡ bare c.mode (kind_on w c) (number_on w c) → m ≡ if (eqb (kind_on w c) 0) 2 0 → (c.row + 1 < 2 ^ 64) × (c.size + y < 2 ^ 64) × (0 < c.left) × (c.left + m < 2 ^ 64)
 past_asks w st c h y m f g =
-      let i : m ≤ 2 = rw g (if_case (λ (z : ℕ). z ≤ 2) (eqb (kind_on w c) 0) 2 0 (λ t. omega arith) (λ t. omega arith)) in
-      (h.row, omega (arith, f, bare_fits w st c h), h.some, omega (arith, h.left))
+    let i : m ≤ 2 = rw g (if_case (λ (z : ℕ). z ≤ 2) (eqb (kind_on w c) 0) 2 0 (λ t. omega arith) (λ t. omega arith)) in
+    (h.row, omega (arith, f, bare_fits w st c h), h.some, omega (arith, h.left))

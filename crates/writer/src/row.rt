@@ -115,7 +115,8 @@ pub(crate) fn check_row(
     Ok(Row { kind, number })
 }
 
-// The row at `row` of a table that sizing has accepted.
+// The row at `row` of a table that sizing has accepted. In line, as `Kind::try_from` is.
+#[inline(always)]
 pub(crate) fn known_row(words: &[u64], row: usize) -> Row
     requires { (2 * row + 2 ≤ length words.now) × (is_kind (style_of (get_or words.now (2 * row) 0)) ≡ true) }
     ensures { (kind_is result.kind ≡ get_or words.now (2 * row) 0) × (result.number ≡ get_or words.now (2 * row + 1) 0) }
