@@ -21,15 +21,6 @@ pub not_true : (b : Bool) → not b ≡ true → b ≡ false
 not_true true e = sym e
 not_true false e = refl
 
-pub not_false : (b : Bool) → not b ≡ false → b ≡ true
-not_false true e = refl
-not_false false e = sym e
-
--- the two words of a row
-pub row_words : (w : List ℕ) (i : ℕ) → 2 * i + 2 ≤ length w → drop (2 * i) w ≡ get_or w (2 * i) 0 ∷ get_or w (2 * i + 1) 0 ∷ drop (2 * i + 2) w
-row_words w i h =
-    drop-cons w (2 * i) 0 (omega arith) ∙ ap (λ (z : List ℕ). get_or w (2 * i) 0 ∷ z) (rw (add-one (2 * i), add-two (2 * i)) (drop-cons w (suc (2 * i)) 0 (omega arith)))
-
 pub check_missing : (l : ℕ) (c : Spot) (i j : ℕ) (w x : List ℕ) → length w < 2 → check l c i j w x ≡ refuse rows_amiss (at i)
 unfolding check
 check_missing zero c i j [] x h = refl

@@ -209,16 +209,3 @@ empty_closed k n e = nest_case k n (bare_closed (style_of k) k n) (λ h r. go (e
     go : (a : Bool) → 0 < if a (count_in n) n → false ≡ (not a && nests (style_of k) k n)
     go true h = refl
     go false h = absurd (omega arith)
-
--- Lengths of heads
-
-pub number_small : (s : Style) (k : ℕ) (h : Short) (w n c r : ℕ) → s ≡ style_of k → s ≡ numbered h w → length (shortest h w c n) ≡ 1 + r → 1 + r ≤ 10
-unfolding head
-number_small s k h w n c r e f g = rw (← g) (rw (sym e ∙ f) at (head_short k c n 0))
-
--- a map holds pairs
-pub map_open : (n : ℕ) → ¬ (n ≡ 0) → n % 2 ≡ 0 → leb n most ≡ (ltb 0 n && (leb n most && eqb (n % 2) 0))
-map_open n h e = rw (lt-ltb 0 n (omega arith), eq-eqb (n % 2) 0 e) (sym (and_true (leb n most)))
-
-pub map_closed : (n : ℕ) → ¬ (n % 2 ≡ 0) → false ≡ (ltb 0 n && (leb n most && eqb (n % 2) 0))
-map_closed n e = rw (ne_eqb (n % 2) 0 e, and_false (leb n most)) (sym (and_false (ltb 0 n)))

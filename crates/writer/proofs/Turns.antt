@@ -62,10 +62,6 @@ good l c i j w x k n e = out (rw e at (checked l c i j w x))
 pub small : {w x : List ℕ} {o : Extent} → Within w x o → length w * 8 < 2 ^ 63 → length x * 1 < 2 ^ 63 → Small o
 small g p q = record { row = omega (arith, g.rows); letter = omega (arith, g.letters); size = omega (arith, g.small, g.rows, g.letters); mark = omega (arith, g.marked, g.rows) }
 
--- the mark of a row with children has no bytes or three
-pub mark_three : (k w : ℕ) → w ≡ if (eqb k 0) 0 3 → (w ≡ 0 → ⊥) → w ≡ 3
-mark_three k w e = rw e (if_case (λ (t : ℕ). (t ≡ 0 → ⊥) → t ≡ 3) (eqb k 0) 0 3 (λ t h. absurd (h refl)) (λ t h. refl))
-
 -- behind a row whose children end before e
 abbrev after : Mode → Extent → (kind number : ℕ) → Extent → Extent
 after m o k n e = record {

@@ -300,7 +300,9 @@ fn close(marks: &mut [u8], c: Extent, kind: Kind, head: usize, body: usize, e: E
 }
 
 // The children of a row of that kind at `c`, where so many levels are left for the row. Where none is left for them the first is refused at once.
+// Inlined, and `size_items` not, so that each level takes one frame.
 #[cycle(size_children_size_items_size_values)]
+#[inline(always)]
 fn size_children(
     table: Table,
     kind: Kind,
@@ -348,6 +350,7 @@ fn size_other(table: Table, levels: usize, c: Extent) -> Result<Extent, Refusal>
 
 // So many elements of an array that tells that kind, the first of them at `start`, where so many levels are left.
 #[cycle(size_children_size_items_size_values)]
+#[inline(never)]
 fn size_items(
     table: Table,
     told: Kind,
