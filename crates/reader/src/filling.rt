@@ -31,6 +31,14 @@ pub struct Row {
     pub children: Run,
 }
 
+// A place in the bytes, or their end.
+#[derive(Clone, Copy)]
+pub struct Cursor<'a> {
+    pub bytes: &'a [u8],
+    pub at: usize,
+    ghost inside: { at ≤ length bytes.now },
+}
+
 // A byte, two's complement, in four or eight bytes.
 #[tactic(auto, unfolding(standard::specs::Grammar::extend, standard::specs::Grammar::negative))]
 fn extended(byte: u64, width: usize) -> u64
@@ -110,17 +118,17 @@ fn array_number(count: u64, code: u8) -> u64
 
 // The row of an array, behind its code. The first byte of its body, if there is one, is the elements' code.
 #[tactic(auto, using(crate::proofs::RowSteps::array_fits, crate::proofs::RowSteps::empty_row, crate::proofs::RowSteps::items_fit, crate::proofs::RowSteps::items_element, crate::proofs::RowSteps::items_row))]
-fn array_row(bytes: &[u8], at: usize, kind: Kind, width: usize) -> Row
-    requires { T (narrow width) × (at ≤ length bytes.now) × Lands (behind_step (kind_is kind) (drop at bytes.now) (array width)) }
-    ensures { RowFound bytes.now (behind_step (kind_is kind) (drop at bytes.now) (array width)) result }
+fn array_row(here: Cursor, kind: Kind, width: usize) -> Row
+    requires { T (narrow width) × Lands (behind_step (kind_is kind) (drop here.at here.bytes.now) (array width)) }
+    ensures { RowFound here.entry.bytes.now (behind_step (kind_is kind) (drop here.entry.at here.entry.bytes.now) (array width)) result }
 {
-    let size = narrow_at(bytes, at, width) as usize;
-    let count = narrow_at(bytes, at + width, width);
-    let body = at + width + width;
+    let size = narrow_at(here.bytes, here.at, width) as usize;
+    let count = narrow_at(here.bytes, here.at + width, width);
+    let body = here.at + width + width;
     if size == width {
         return leaf(kind, 0, body, 0);
     }
-    let code = bytes[body];
+    let code = here.bytes[body];
     Row {
         kind,
         number: array_number(count, code),
@@ -135,110 +143,121 @@ fn array_row(bytes: &[u8], at: usize, kind: Kind, width: usize) -> Row
 
 // The row of a number, behind its code.
 #[tactic(auto, using(crate::proofs::RowSteps::first_fits, crate::proofs::RowSteps::whole_row))]
-fn whole_row(bytes: &[u8], at: usize, kind: Kind, width: usize) -> Row
-    requires { T (usual width) × (at ≤ length bytes.now) × Lands (behind_step (kind_is kind) (drop at bytes.now) (scalar (whole width))) }
-    ensures { RowFound bytes.now (behind_step (kind_is kind) (drop at bytes.now) (scalar (whole width))) result }
+fn whole_row(here: Cursor, kind: Kind, width: usize) -> Row
+    requires { T (usual width) × Lands (behind_step (kind_is kind) (drop here.at here.bytes.now) (scalar (whole width))) }
+    ensures { RowFound here.entry.bytes.now (behind_step (kind_is kind) (drop here.entry.at here.entry.bytes.now) (scalar (whole width))) result }
 {
-    leaf(kind, number_at(bytes, at, width), at + width, 0)
+    leaf(
+        kind,
+        number_at(here.bytes, here.at, width),
+        here.at + width,
+        0,
+    )
 }
 
 // The row of a number of one byte, two's complement.
 #[tactic(auto, using(crate::proofs::RowSteps::first_fits, crate::proofs::RowSteps::small_row, crate::proofs::Entries::four_or_eight))]
-fn small_row(bytes: &[u8], at: usize, kind: Kind, width: usize) -> Row
-    requires { T (eqb width 4 || eqb width 8) × (at ≤ length bytes.now) × Lands (behind_step (kind_is kind) (drop at bytes.now) (scalar (small width))) }
-    ensures { RowFound bytes.now (behind_step (kind_is kind) (drop at bytes.now) (scalar (small width))) result }
+fn small_row(here: Cursor, kind: Kind, width: usize) -> Row
+    requires { T (eqb width 4 || eqb width 8) × Lands (behind_step (kind_is kind) (drop here.at here.bytes.now) (scalar (small width))) }
+    ensures { RowFound here.entry.bytes.now (behind_step (kind_is kind) (drop here.entry.at here.entry.bytes.now) (scalar (small width))) result }
 {
-    leaf(kind, extended(u64::from(bytes[at]), width), at + 1, 0)
+    leaf(
+        kind,
+        extended(u64::from(here.bytes[here.at]), width),
+        here.at + 1,
+        0,
+    )
 }
 
 // The row of a text, behind its code.
 #[tactic(auto, using(crate::proofs::RowSteps::first_fits, crate::proofs::RowSteps::sized_row))]
-fn sized_row(bytes: &[u8], at: usize, kind: Kind, width: usize) -> Row
-    requires { T (narrow width) × (at ≤ length bytes.now) × Lands (behind_step (kind_is kind) (drop at bytes.now) (scalar (sized width))) }
-    ensures { RowFound bytes.now (behind_step (kind_is kind) (drop at bytes.now) (scalar (sized width))) result }
+fn sized_row(here: Cursor, kind: Kind, width: usize) -> Row
+    requires { T (narrow width) × Lands (behind_step (kind_is kind) (drop here.at here.bytes.now) (scalar (sized width))) }
+    ensures { RowFound here.entry.bytes.now (behind_step (kind_is kind) (drop here.entry.at here.entry.bytes.now) (scalar (sized width))) result }
 {
-    let length = narrow_at(bytes, at, width);
-    leaf(kind, length, at + width, length as usize)
+    let length = narrow_at(here.bytes, here.at, width);
+    leaf(kind, length, here.at + width, length as usize)
 }
 
 // The row of a list or a map, behind its code.
 #[tactic(auto, using(crate::proofs::RowSteps::compound_fits, crate::proofs::RowSteps::compound_row))]
-fn compound_row(bytes: &[u8], at: usize, kind: Kind, width: usize) -> Row
-    requires { T (narrow width) × (at ≤ length bytes.now) × Lands (behind_step (kind_is kind) (drop at bytes.now) (compound width)) }
-    ensures { RowFound bytes.now (behind_step (kind_is kind) (drop at bytes.now) (compound width)) result }
+fn compound_row(here: Cursor, kind: Kind, width: usize) -> Row
+    requires { T (narrow width) × Lands (behind_step (kind_is kind) (drop here.at here.bytes.now) (compound width)) }
+    ensures { RowFound here.entry.bytes.now (behind_step (kind_is kind) (drop here.entry.at here.entry.bytes.now) (compound width)) result }
 {
-    let count = narrow_at(bytes, at + width, width);
-    parent(kind, count, at + width + width)
+    let count = narrow_at(here.bytes, here.at + width, width);
+    parent(kind, count, here.at + width + width)
 }
 
 // The row of what stands behind a code, by its entry.
 #[tactic(auto, unfolding(crate::specs::Entries::sure), using(crate::proofs::RowSteps::entered, crate::proofs::RowSteps::entry_there, crate::proofs::RowSteps::constant_row, crate::proofs::RowSteps::raw_row, crate::proofs::RowSteps::described_row, standard::specs::Facts::and_left, standard::specs::Facts::and_right))]
-fn entry_row(bytes: &[u8], at: usize, code: u8) -> Row
-    requires { (at ≤ length bytes.now) × Lands (behind_step (kind_of code) (drop at bytes.now) (layout_of code)) }
-    ensures { RowFound bytes.now (behind_step (kind_of code) (drop at bytes.now) (layout_of code)) result }
+fn entry_row(here: Cursor, code: u8) -> Row
+    requires { Lands (behind_step (kind_of code) (drop here.at here.bytes.now) (layout_of code)) }
+    ensures { RowFound here.entry.bytes.now (behind_step (kind_of code) (drop here.entry.at here.entry.bytes.now) (layout_of code)) result }
 {
     let Some(entry) = format_code::entry_of(code) else {
         unreachable!()
     };
     let kind = entry.kind;
     match entry.layout {
-        Layout::Described => parent(kind, 2, at),
-        Layout::Constant(number) => leaf(kind, number, at, 0),
-        Layout::Whole(width) => whole_row(bytes, at, kind, width),
-        Layout::Small(width) => small_row(bytes, at, kind, width),
-        Layout::Raw(width) => leaf(kind, 0, at, width),
-        Layout::Sized(width) => sized_row(bytes, at, kind, width),
-        Layout::Compound(width) => compound_row(bytes, at, kind, width),
-        Layout::Array(width) => array_row(bytes, at, kind, width),
+        Layout::Described => parent(kind, 2, here.at),
+        Layout::Constant(number) => leaf(kind, number, here.at, 0),
+        Layout::Whole(width) => whole_row(here, kind, width),
+        Layout::Small(width) => small_row(here, kind, width),
+        Layout::Raw(width) => leaf(kind, 0, here.at, width),
+        Layout::Sized(width) => sized_row(here, kind, width),
+        Layout::Compound(width) => compound_row(here, kind, width),
+        Layout::Array(width) => array_row(here, kind, width),
     }
 }
 
 // The row of what stands behind a code. The usual codes go their own way at once: looking the entry up takes as long again.
 #[tactic(auto, unfolding(standard::specs::Codes::entry_of, standard::specs::Codes::codes, standard::specs::Choose::lookup), using(crate::proofs::RowSteps::constant_row, crate::proofs::RowSteps::described_row))]
-fn row_behind(bytes: &[u8], at: usize, code: u8) -> Row
-    requires { (at ≤ length bytes.now) × Lands (behind_step (kind_of code) (drop at bytes.now) (layout_of code)) }
-    ensures { RowFound bytes.now (behind_step (kind_of code) (drop at bytes.now) (layout_of code)) result }
+fn row_behind(here: Cursor, code: u8) -> Row
+    requires { Lands (behind_step (kind_of code) (drop here.at here.bytes.now) (layout_of code)) }
+    ensures { RowFound here.entry.bytes.now (behind_step (kind_of code) (drop here.entry.at here.entry.bytes.now) (layout_of code)) result }
 {
     match code {
-        format_code::DESCRIBED => parent(Kind::Described, 2, at),
-        format_code::NULL => whole_row(bytes, at, Kind::Null, 0),
-        format_code::TRUE => leaf(Kind::Boolean, 1, at, 0),
-        format_code::FALSE => leaf(Kind::Boolean, 0, at, 0),
-        format_code::UINT_0 => leaf(Kind::Uint, 0, at, 0),
-        format_code::ULONG_0 => leaf(Kind::Ulong, 0, at, 0),
-        format_code::LIST_0 => leaf(Kind::List, 0, at, 0),
-        format_code::SMALL_UINT => whole_row(bytes, at, Kind::Uint, 1),
-        format_code::SMALL_ULONG => whole_row(bytes, at, Kind::Ulong, 1),
-        format_code::SMALL_INT => small_row(bytes, at, Kind::Int, 4),
-        format_code::SMALL_LONG => small_row(bytes, at, Kind::Long, 8),
-        format_code::UINT => whole_row(bytes, at, Kind::Uint, 4),
-        format_code::INT => whole_row(bytes, at, Kind::Int, 4),
-        format_code::ULONG => whole_row(bytes, at, Kind::Ulong, 8),
-        format_code::LONG => whole_row(bytes, at, Kind::Long, 8),
-        format_code::DOUBLE => whole_row(bytes, at, Kind::Double, 8),
-        format_code::TIMESTAMP => whole_row(bytes, at, Kind::Timestamp, 8),
-        format_code::BINARY_8 => sized_row(bytes, at, Kind::Binary, 1),
-        format_code::STRING_8 => sized_row(bytes, at, Kind::String, 1),
-        format_code::SYMBOL_8 => sized_row(bytes, at, Kind::Symbol, 1),
-        format_code::LIST_8 => compound_row(bytes, at, Kind::List, Compound8::COUNT_WIDTH),
-        format_code::MAP_8 => compound_row(bytes, at, Kind::Map, Compound8::COUNT_WIDTH),
-        format_code::LIST_32 => compound_row(bytes, at, Kind::List, Compound32::COUNT_WIDTH),
-        format_code::MAP_32 => compound_row(bytes, at, Kind::Map, Compound32::COUNT_WIDTH),
-        _ => entry_row(bytes, at, code),
+        format_code::DESCRIBED => parent(Kind::Described, 2, here.at),
+        format_code::NULL => whole_row(here, Kind::Null, 0),
+        format_code::TRUE => leaf(Kind::Boolean, 1, here.at, 0),
+        format_code::FALSE => leaf(Kind::Boolean, 0, here.at, 0),
+        format_code::UINT_0 => leaf(Kind::Uint, 0, here.at, 0),
+        format_code::ULONG_0 => leaf(Kind::Ulong, 0, here.at, 0),
+        format_code::LIST_0 => leaf(Kind::List, 0, here.at, 0),
+        format_code::SMALL_UINT => whole_row(here, Kind::Uint, 1),
+        format_code::SMALL_ULONG => whole_row(here, Kind::Ulong, 1),
+        format_code::SMALL_INT => small_row(here, Kind::Int, 4),
+        format_code::SMALL_LONG => small_row(here, Kind::Long, 8),
+        format_code::UINT => whole_row(here, Kind::Uint, 4),
+        format_code::INT => whole_row(here, Kind::Int, 4),
+        format_code::ULONG => whole_row(here, Kind::Ulong, 8),
+        format_code::LONG => whole_row(here, Kind::Long, 8),
+        format_code::DOUBLE => whole_row(here, Kind::Double, 8),
+        format_code::TIMESTAMP => whole_row(here, Kind::Timestamp, 8),
+        format_code::BINARY_8 => sized_row(here, Kind::Binary, 1),
+        format_code::STRING_8 => sized_row(here, Kind::String, 1),
+        format_code::SYMBOL_8 => sized_row(here, Kind::Symbol, 1),
+        format_code::LIST_8 => compound_row(here, Kind::List, Compound8::COUNT_WIDTH),
+        format_code::MAP_8 => compound_row(here, Kind::Map, Compound8::COUNT_WIDTH),
+        format_code::LIST_32 => compound_row(here, Kind::List, Compound32::COUNT_WIDTH),
+        format_code::MAP_32 => compound_row(here, Kind::Map, Compound32::COUNT_WIDTH),
+        _ => entry_row(here, code),
     }
 }
 
 // The row of the next value, which stands behind that code or begins with its own.
 #[tactic(auto, unfolding(laws::specs::Flat::step_of), using(crate::proofs::RowSteps::code_fits, crate::proofs::RowSteps::begins_with))]
-fn row_at(bytes: &[u8], at: usize, code: Option<u8>) -> Row
-    requires { (at ≤ length bytes.now) × Lands (step_of (head_is code) (drop at bytes.now)) }
-    ensures { RowFound bytes.now (step_of (head_is code) (drop at bytes.now)) result }
+fn row_at(here: Cursor, code: Option<u8>) -> Row
+    requires { Lands (step_of (head_is code) (drop here.at here.bytes.now)) }
+    ensures { RowFound here.entry.bytes.now (step_of (head_is code) (drop here.entry.at here.entry.bytes.now)) result }
 {
-    let (code, behind) = match code {
+    let Cursor { bytes, at } = here;
+    let (code, at) = match code {
         Some(code) => (code, at),
         None => (bytes[at], at + 1),
     };
-    row_behind(bytes, behind, code)
+    row_behind(Cursor { bytes, at }, code)
 }
 
 // Copies the text of a row. Most rows have none, and make no call for it.
@@ -268,7 +287,7 @@ pub(crate) fn fill(bytes: &[u8], words: &mut [u64], text: &mut [u8], rows: usize
     let mut letters: usize = 0;
     for row in 0..rows {
         top = below.next_run(top);
-        let r = row_at(bytes, at, top.code);
+        let r = row_at(Cursor { bytes, at }, top.code);
         let k = 2 * row;
         words[k] = u64::from(r.kind);
         words[k + 1] = r.number;

@@ -7,7 +7,7 @@ pub next_run-top-requires : goal.next_run-top-requires
 next_run-top-requires c = some_due c.loop-row.invariant.2 c.loop-row-test.true
 
 pub row_at-r-requires : goal.row_at-r-requires
-row_at-r-requires c = (c.loop-row.invariant.2.here, row_lands c.loop-row.invariant.2 c.loop-row-test.true c.next_run-top.result c.next_run-top.new.self c.next_run-top.ensures)
+row_at-r-requires c = row_lands c.loop-row.invariant.2 c.loop-row-test.true c.next_run-top.result c.next_run-top.new.self c.next_run-top.ensures
 
 pub put_text-requires : goal.put_text-requires
 put_text-requires c = text_fits_lem c.loop-row.invariant.2 c.loop-row-test.true c.next_run-top.result c.next_run-top.new.self c.next_run-top.ensures c.row_at-r.ensures
