@@ -8,7 +8,7 @@ use borrow.Author.Tests.{lt-ltb, le-ltb, lt-leb, ltb-true, ltb-false, eqb-true, 
 use borrow.Enum.Match.{AllBelow, each_below}
 use lib.Dec.{T, eqb, eqb→eq, leb, leb→le, ltb, lit<}
 use lib.ListN.{length}
-use Rattle.std.specs.Prelude.{Option, Some, None}
+use Rattle.std.specs.Prelude.{Some, None}
 use Rattle.standard.specs.Choose.{if, lookup}
 use Rattle.standard.specs.Kinds.{Short, never, flag, unsigned, signed, Style, foreign, numbered, blob, lettered, listed, mapped, arrayed, describing, kinds, style_of, fair}
 use Rattle.standard.specs.Table.{ranged}

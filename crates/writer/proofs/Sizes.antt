@@ -1,6 +1,6 @@
 -- The bytes of a number and of letters by their kind, and rows with children.
 use Prim.Native.Nat.{ℕ, zero, suc, ◌+◌, ◌%◌, ◌^◌, ◌≤◌, ◌<◌}
-use mathlib.Core.Path.{◌≡◌, refl, sym, ap, ◌∙◌, subst}
+use mathlib.Core.Path.{◌≡◌, refl, sym, ap, ◌∙◌}
 use mathlib.Core.List.{List, [], ◌∷◌, ◌++◌}
 use mathlib.Core.Bool.{Bool, true, false, not, ◌&&◌}
 use native.Mathlib.Nat.{pow-le-pow_right}
@@ -17,13 +17,11 @@ use Rattle.standard.specs.Encode.{short_end, fits_byte, shortest}
 use Rattle.standard.specs.Facts.{and_left, and_right}
 use Rattle.laws.specs.Numbers.{length_be}
 use Rattle.laws.specs.Texts.{all_good, some_bad}
-use Rattle.standard.proofs.Lookup.{Rest}
 use Rattle.writer.specs.Heads.{enclosure, head, item_width, array_width, Mode, values, elements}
 use Rattle.writer.specs.Marks.{mark_width}
-use Rattle.writer.specs.Direct.{is_number, is_arrayed}
-use Rattle.writer.specs.Sizing.{head_size, nests, opens, number_size, text_size, open_head}
-use Rattle.writer.proofs.Bodies.{enclosed_width, item_wide, head_short}
-use Rattle.writer.proofs.Tabled.{all_kinds, of_kind, kinds_onto, other}
+use Rattle.writer.specs.Sizing.{head_size, nests, opens, text_size, open_head}
+use Rattle.writer.proofs.Bodies.{enclosed_width, item_wide}
+use Rattle.writer.proofs.Tabled.{all_kinds, of_kind}
 use Rattle.writer.proofs.Direct.{coded_long, flag_long}
 
 -- The bytes of a number

@@ -1,5 +1,5 @@
 -- Values and elements: `size_values` and `size_items` go over them row by row, and call `size_children` for what is in a row, which calls them with a level less.
-use Prim.Native.Nat.{ℕ, ◌+◌, ◌*◌, ◌-◌, ◌<◌}
+use Prim.Native.Nat.{ℕ, ◌+◌, ◌*◌, ◌-◌}
 use mathlib.Core.Path.{◌≡◌, refl, sym}
 use native.Mathlib.Omega.{arith}
 use lib.ListN.{drop}

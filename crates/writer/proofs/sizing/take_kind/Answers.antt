@@ -1,7 +1,7 @@
 -- Three kinds hold letters.
 use Prim.Native.Nat.{ℕ}
 use mathlib.Core.Logic.{◌⊎◌, inl, inr}
-use mathlib.Core.Path.{◌≡◌, refl}
+use mathlib.Core.Path.{◌≡◌}
 use Rattle.standard.specs.Choose.{lookup}
 use Rattle.standard.specs.InCode.{kind_is}
 use Rattle.standard.specs.Kinds.{lettered, kinds, style_of}

@@ -1,5 +1,4 @@
 -- A row is read where a level and two words are left.
-use mathlib.Core.Path.{sym}
 use native.Mathlib.Omega.{arith}
 use Rattle.writer.proofs.Turns.{leaf, number_leaf, seen_told, bare_deep, bare_missing, bare_strange}
 use Rattle.writer.proofs.sizing.take_row.Goals as goal
