@@ -192,8 +192,9 @@ fn put_array(table: Table, out: &mut [u8], mode: Mode, elements: usize, c: Curso
 {
     let number = table.words[2 * c.row + 1];
     let count = kind::count_of_elements(number);
+    let code = head::wide_code(told_kind(number));
     let size = put_array_fields(out, c.at, mode, count, 1 + elements as u64);
-    out[c.at + size] = head::wide_code(told_kind(number));
+    out[c.at + size] = code;
     c.behind(size + 1, 0, mark_width(count))
 }
 

@@ -34,4 +34,4 @@ behind-requires c =
 pub returns : goal.returns
 returns c =
     let p = put_behind _ _ _ _ _ 1 _ (_ ∷ []) c.put_array_fields-size.ensures refl refl in
-    part_put (array_parts _ _ _ _ _ c.requires.0 c.requires.1 c.requires.2 _ c.requires.3 _ c.count_of_elements-count.ensures _ c.mark_width.ensures _ (c.wide_code.ensures ∙ c.told_kind.ensures)) _ _ p.stored (c.behind.ensures ∙ rw c.put_array_fields-size.ensures.size)
+    part_put (array_parts _ _ _ _ _ c.requires.0 c.requires.1 c.requires.2 _ c.requires.3 _ c.count_of_elements-count.ensures _ c.mark_width.ensures _ (c.wide_code-code.ensures ∙ c.told_kind.ensures)) _ _ p.stored (c.behind.ensures ∙ rw c.put_array_fields-size.ensures.size)
