@@ -10,7 +10,7 @@ use lib.ListN.{length, take, drop, length-append, length-drop}
 use lib.Seq.{sets, length-take-le}
 use Rattle.standard.specs.Choose.{if, lookup}
 use Rattle.standard.specs.Bytes.{be, unbe}
-use Rattle.standard.specs.Facts.{true_T, if_case}
+use Rattle.standard.specs.Facts.{true_T}
 use Rattle.standard.specs.Kinds.{Style, arrayed, kinds, style_of, is_kind, count_in, kind_in}
 use Rattle.standard.specs.Table.{letters}
 use Rattle.laws.specs.Numbers.{length_be}

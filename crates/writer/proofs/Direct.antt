@@ -1,21 +1,20 @@
 -- Rows that are written by their kind at once: the lengths of what is stored, and the bytes that are all of a row.
-use Prim.Native.Nat.{ℕ, suc, ◌+◌, ◌%◌, ◌≤◌, ◌<◌}
+use Prim.Native.Nat.{ℕ, ◌+◌, ◌%◌, ◌≤◌, ◌<◌}
 use mathlib.Core.Path.{◌≡◌, refl, sym, subst}
 use mathlib.Core.List.{List, [], ◌∷◌, ◌++◌, append-nil}
 use mathlib.Core.Bool.{Bool, true, false, false≢true}
 use mathlib.Core.Logic.{◌⊎◌, ⊎_elim}
 use native.Mathlib.Omega.{arith}
-use lib.Dec.{T, eqb, ltb, lit≤, lit<}
-use lib.ListN.{length, take, drop, set, length-append, length-drop}
+use lib.Dec.{T, eqb, lit≤, lit<}
+use lib.ListN.{length, take, drop, length-append, length-drop}
 use lib.Seq.{sets, length-take-le}
 use Rattle.standard.specs.Choose.{if, lookup}
 use Rattle.standard.specs.Bytes.{be}
-use Rattle.standard.specs.Kinds.{unsigned, Style, foreign, numbered, blob, lettered, listed, mapped, arrayed, describing, kinds, style_of}
+use Rattle.standard.specs.Kinds.{Style, foreign, numbered, blob, lettered, listed, mapped, arrayed, describing, kinds, style_of}
 use Rattle.standard.specs.Table.{letters}
 use Rattle.standard.specs.InCode.{kind_is}
 use Rattle.standard.specs.declared.kind.Kind.{Kind}
 use Rattle.standard.specs.declared.kind.Kind.TheVariants as kind
-use Rattle.standard.specs.Encode.{shortest}
 use Rattle.laws.specs.Numbers.{length_be}
 use Rattle.writer.specs.Heads.{head}
 use Rattle.writer.specs.Marks.{mark_width}

@@ -1,19 +1,18 @@
 -- Marking, row after row: whatever was to be made from a point on is made from the next one on.
-use Prim.Native.Nat.{ℕ, zero, suc, ◌+◌, ◌*◌, ◌-◌, ◌/◌, ◌%◌, ◌^◌, ◌≤◌, ◌<◌}
+use Prim.Native.Nat.{ℕ, zero, suc, ◌+◌, ◌*◌, ◌-◌, ◌%◌, ◌^◌, ◌≤◌, ◌<◌}
 use mathlib.Core.Path.{◌≡◌, refl, sym, ap, ◌∙◌, subst}
 use mathlib.Core.List.{List, [], ◌∷◌, ◌++◌, append-nil, append_assoc}
 use mathlib.Core.Bool.{Bool, true, false, ◌||◌}
-use mathlib.Core.Logic.{⊎_elim}
-use native.Mathlib.Nat.{add-zero, add-suc, suc-add, mod-eq_of_lt}
+use native.Mathlib.Nat.{add-zero, mod-eq_of_lt}
 use native.Mathlib.Omega.{arith}
 use borrow.Author.Tests.{lt-ltb, ne_eqb}
 use lib.Dec.{T, eqb, eqb→eq, eqb-suc-zero, leb, leb→le, ltb}
 use lib.ListN.{length, drop, get_or, set, length-append, length-drop, length-set}
 use lib.Seq.{sets, length-sets, get_or-drop, drop-drop, get_or-set_same, get_or-set_other}
-use Rattle.standard.specs.Choose.{if, lookup}
+use Rattle.standard.specs.Choose.{if}
 use Rattle.standard.specs.Bytes.{be}
 use Rattle.standard.specs.Tree.{Tree, node, Trees, none, more, count, rows, rows*}
-use Rattle.standard.specs.Kinds.{Style, foreign, numbered, blob, lettered, listed, mapped, arrayed, describing, kinds, style_of, is_kind, member, count_in}
+use Rattle.standard.specs.Kinds.{Style, foreign, numbered, blob, lettered, listed, mapped, arrayed, describing, style_of, is_kind, member, count_in}
 use Rattle.standard.specs.Table.{most, Spot, any, like, ranged, letters, children, spot_in, Row, All, Valid}
 use Rattle.standard.specs.Encode.{short_end, encode, encode*, payloads}
 use Rattle.standard.specs.Outcomes.{level_most}
@@ -22,16 +21,14 @@ use Rattle.laws.specs.Numbers.{length_be}
 use Rattle.laws.specs.Bounds.{rows_length, small}
 use Rattle.laws.specs.Written.{well_formed}
 use Rattle.laws.specs.Stores.{sets_append}
-use Rattle.standard.proofs.Lookup.{Rest}
 use Rattle.writer.specs.Heads.{head, item_width, body_of, Mode, values, elements, mode_of, head_in, written*}
 use Rattle.writer.specs.Direct.{is_list_or_map, is_arrayed}
 use Rattle.writer.specs.Sizing.{Sure}
 use Rattle.writer.specs.Marks.{mark_width, marks, marks*}
-use Rattle.writer.specs.Marking.{none_begun, emptied, pushed, last_begun, popped, boxes, box_width, kind_on, number_on, bare, from_start, beyond, mode_in, opened, closed, taken, stacked, Ready, Complete, Markable}
+use Rattle.writer.specs.Marking.{none_begun, emptied, last_begun, popped, boxes, box_width, kind_on, number_on, bare, from_start, mode_in, opened, closed, taken, stacked, Ready, Complete, Markable}
 use Rattle.writer.specs.declared.marking.Begun.{Begun}
 use Rattle.writer.specs.declared.marking.Stack.{Stack}
 use Rattle.writer.specs.declared.marking.Point.{Point}
-use Rattle.writer.proofs.Tabled.{kinds_onto, other}
 use Rattle.writer.proofs.Bodies.{enclosed_width, item_wide, item_short, head_short, kind_small}
 use Rattle.writer.proofs.Joined.{join, count_join, rows_join, marks_join, size_join, valid_join, deeper*, few}
 use Rattle.writer.proofs.Spots.{sure_inside, element_fits, row_bytes}

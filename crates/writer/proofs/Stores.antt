@@ -1,7 +1,7 @@
 -- Runs of stores: what stores come to, as one run of bytes.
-use Prim.Native.Nat.{ℕ, zero, suc, ◌+◌, ◌*◌, ◌-◌, ◌/◌, ◌%◌, ◌^◌, ◌≤◌, ◌<◌}
+use Prim.Native.Nat.{ℕ, zero, suc, ◌+◌, ◌*◌, ◌-◌, ◌/◌, ◌%◌, ◌^◌, ◌≤◌}
 use mathlib.Core.Path.{◌≡◌, refl, sym, ap, ◌∙◌, subst}
-use mathlib.Core.List.{List, [], ◌∷◌, ◌++◌, append_assoc}
+use mathlib.Core.List.{List, [], ◌∷◌, append_assoc}
 use native.Mathlib.Nat.{add-zero, zero-add, suc-add, div-one}
 use native.Mathlib.Omega.{arith}
 use borrow.Rule.Slice.PartMut.{put_mid}
@@ -9,7 +9,7 @@ use lib.ListN.{length, take, drop, get_or, set}
 use lib.Seq.{sets, sets-eq, set-set, set_comm, take-nil, take-take, drop-cons, drop-drop, drop-set-lt}
 use Rattle.std.specs.Int.{w64, byte_at, bytes_high_first, to_be_bytes}
 use Rattle.standard.specs.Bytes.{be, unbe, spell}
-use Rattle.laws.specs.Stores.{sets_append, drop_take}
+use Rattle.laws.specs.Stores.{drop_take}
 
 -- a store behind a run
 sets_set : (l : List ℕ) (i : ℕ) (xs : List ℕ) (k a : ℕ) → i + length xs ≤ k → set (sets l i xs) k a ≡ sets (set l k a) i xs

@@ -1,6 +1,6 @@
 -- What stands before the text of a row: its format code, and its number or its size and count (docs/FORMAT.md, 3).
 -- `compact_head` and `wide_head` of proofs/Bodies.antt say that a value and an element are their head, their text and their children's bytes.
-use Rattle.std.specs.Prelude.{ℕ, suc, ◌+◌, ◌%◌, List, [], ◌∷◌, ◌++◌, Bool, true, false, eqb, ltb}
+use Rattle.std.specs.Prelude.{ℕ, suc, ◌+◌, ◌%◌, List, [], ◌∷◌, ◌++◌, eqb, ltb}
 use Rattle.standard.specs.Choose.{if}
 use Rattle.standard.specs.Bytes.{be}
 use Rattle.standard.specs.Tree.{Tree, Trees}

@@ -1,10 +1,7 @@
 -- `put_value` writes what is all of a row, by its kind.
-use mathlib.Core.Path.{sym, ◌∙◌}
 use native.Mathlib.Omega.{arith}
 use lib.ListN.{drop, length-drop}
 use lib.Seq.{length-take-le}
-use Rattle.standard.specs.Choose.{lookup}
-use Rattle.standard.specs.Kinds.{kinds, style_of}
 use Rattle.writer.proofs.Direct.{number_sole, compound_sole, letters_sole, described_kind, lettered_kind, blob_kind, compound_kind, array_kind, rest_number}
 use Rattle.writer.proofs.Cursors.{sole_fits, sole_text, sole_mark, sole_behind, sole_stepped}
 use Rattle.writer.proofs.filling.put_value.Goals as goal

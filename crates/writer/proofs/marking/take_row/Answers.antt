@@ -1,9 +1,7 @@
 -- `take_row` goes on behind a row, whatever it is.
-use Prim.Native.Nat.{◌+◌, ◌^◌, ◌<◌}
+use Prim.Native.Nat.{◌+◌}
 use mathlib.Core.Path.{◌≡◌}
 use native.Mathlib.Omega.{arith}
-use lib.Dec.{eqb}
-use Rattle.standard.specs.Choose.{if}
 use Rattle.writer.specs.Marking.{kind_on, number_on, bare}
 use Rattle.writer.proofs.Onward.{past_asks, bare_fits}
 use Rattle.writer.proofs.marking.take_row.Goals as goal

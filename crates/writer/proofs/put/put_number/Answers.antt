@@ -1,5 +1,4 @@
 -- Null is its code alone.
-use mathlib.Core.Path.{◌≡◌}
 use Rattle.standard.specs.Choose.{lookup}
 use Rattle.standard.specs.Bytes.{be}
 use Rattle.standard.specs.Kinds.{kinds, style_of}

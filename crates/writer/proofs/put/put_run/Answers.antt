@@ -1,5 +1,4 @@
 -- `put_run` stores a code and a length, and the text behind them.
-use native.Mathlib.Omega.{arith}
 use Rattle.writer.proofs.Direct.{run_long, put_behind}
 use Rattle.writer.proofs.put.put_run.Goals as goal
 
