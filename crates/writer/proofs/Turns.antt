@@ -152,8 +152,7 @@ module _ {w x : List ℕ} {l : ℕ} {c : Spot} {o₀ o : Extent} {n₀ m : ℕ} 
   pub nest_first : Within w x (inside o k) × (0 < l) × (0 < children_count cs) × Sure (children_spot cs)
   nest_first =
       let g = y.within in
-      let q = is_good y h k f.number passes in
-      (
+      let q = is_good y h k f.number passes in (
         record { rows = omega (arith, g.rows, ap length q.words, length-drop (2 * o.row) w); letters = g.letters; marked = omega (arith, g.marked, few 3 k); small = omega arith },
         q.level,
         f.some,
@@ -405,5 +404,8 @@ deep_finds w x l c n o b e h = rw e (go (check_at w x 0 any o) refl)
     go (refuse a p) q = finds_no w x 0 c n o b b a p h (check_no w x 0 c o a p (check_spot c any o.row o.text (drop (2 * o.row) w) (drop o.text x) ∙ q))
 
 -- the beginning of a table
+pub start : (e : Extent) → (e.row ≡ 0) × ((e.text ≡ 0) × ((e.size ≡ 0) × (e.mark ≡ 0))) → e ≡ begin
+start e h = same h.0 h.1.0 h.1.1.0 h.1.1.1
+
 pub at_start : (w x : List ℕ) → Within w x begin
 at_start w x = record { rows = omega arith; letters = omega arith; marked = omega arith; small = omega arith }

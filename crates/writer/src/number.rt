@@ -12,6 +12,7 @@ use standard::kind;
 use standard::kind::Kind;
 
 // A number with no short form.
+#[tactic(auto, using(crate::proofs::Sizes::never_yes))]
 fn size_never(number: u64, width: usize) -> Option<usize>
     requires { width ≤ 8 }
     ensures { (c : ℕ) → result ≡ if (ltb number (256 ^ width)) (Some (length (shortest never width c number))) None }
@@ -22,6 +23,7 @@ fn size_never(number: u64, width: usize) -> Option<usize>
     Some(1 + width)
 }
 
+#[tactic(auto, using(crate::proofs::Sizes::boolean_yes, crate::proofs::Sizes::boolean_no))]
 fn size_boolean(number: u64) -> Option<usize>
     ensures { (y x c : ℕ) → result ≡ if (ranged (numbered (flag y x) 1) 0x56 number) (Some (length (shortest (flag y x) 1 c number))) None }
 {
@@ -31,6 +33,7 @@ fn size_boolean(number: u64) -> Option<usize>
     Some(1)
 }
 
+#[tactic(auto, using(crate::proofs::Sizes::char_yes, crate::proofs::Sizes::char_no))]
 fn size_char(number: u64) -> Option<usize>
     ensures { (c : ℕ) → result ≡ if (ranged (numbered never 4) 0x73 number) (Some (length (shortest never 4 c number))) None }
 {
@@ -40,6 +43,7 @@ fn size_char(number: u64) -> Option<usize>
     size_never(number, 4)
 }
 
+#[tactic(auto, using(crate::proofs::Sizes::unsigned_zero, crate::proofs::Sizes::unsigned_byte, crate::proofs::Sizes::unsigned_wide))]
 fn size_unsigned(number: u64, width: usize) -> Option<usize>
     requires { (1 ≤ width) × (width ≤ 8) }
     ensures { (z s c : ℕ) → result ≡ if (ltb number (256 ^ width)) (Some (length (shortest (unsigned z s) width c number))) None }
@@ -53,6 +57,7 @@ fn size_unsigned(number: u64, width: usize) -> Option<usize>
     size_never(number, width)
 }
 
+#[tactic(auto, using(crate::proofs::Sizes::signed_byte, crate::proofs::Sizes::signed_wide))]
 fn size_signed(number: u64, width: usize) -> Option<usize>
     requires { width ≤ 8 }
     ensures { (s c : ℕ) → result ≡ if (ltb number (256 ^ width)) (Some (length (shortest (signed s) width c number))) None }
@@ -133,6 +138,7 @@ fn plain_need(low: u64, number: u64) -> usize
 }
 
 // The bytes of a number of a plain kind that is in range and not negative.
+#[tactic(auto, using(crate::proofs::Plain::plain_low, crate::proofs::Plain::plain_bytes))]
 fn plain_bytes(kind: u64, number: u64) -> usize
     requires { (kind < 144) × (plain_kind kind ≡ true)
         × (number < 256 ^ (2 ^ (kind / 16) / 32)) × (kind % 16 ≡ 1 → number * 2 < 256 ^ (2 ^ (kind / 16) / 32)) }

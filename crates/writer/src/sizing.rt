@@ -19,7 +19,7 @@ use standard::kind::Kind;
 use standard::refusal::Refusal;
 
 // What is behind values: the next row and its text, the bytes that they take, and the next mark.
-#[derive(Clone, Copy)]
+#[derive(Clone, Copy, Default)]
 pub struct Extent {
     pub row: usize,
     pub text: usize,
@@ -28,18 +28,6 @@ pub struct Extent {
 }
 
 impl Extent {
-    // At the first row of a table.
-    pub fn new() -> Self
-        ensures { result ≡ begin }
-    {
-        Self {
-            row: 0,
-            text: 0,
-            size: 0,
-            mark: 0,
-        }
-    }
-
     // Behind a row without children that has so many bytes of text and takes so many bytes.
     fn past(self, letters: usize, size: usize) -> Self
         requires { Small (past self letters size) }

@@ -53,11 +53,11 @@ pub size_items-loop-preserved : goal.size_items-loop-preserved
 unfolding mode_of
 size_items-loop-preserved t c = rw turned (elim c.match-take_element.branch [
   | size_items-in-Some+in_ok-e w ↦
-    rw (w.marks-is, w.c-is, w.close-c.ensures.0)
-    (nest_on c.loop.invariant (omega (arith, c.loop-test.true)) _ _ w.in-Some.ensures _ w.size_children.auto.marks _ w.in_ok-e.ensures _ refl _ w.nested_head.ensures _ w.close-c.ensures.1 w.close-c.auto.marks)
+      rw (w.marks-is, w.c-is, w.close-c.ensures.0)
+      (nest_on c.loop.invariant (omega (arith, c.loop-test.true)) _ _ w.in-Some.ensures _ w.size_children.auto.marks _ w.in_ok-e.ensures _ refl _ w.nested_head.ensures _ w.close-c.ensures.1 w.close-c.auto.marks)
   | size_items-in_default+in_ok-row w ↦
-    rw (w.marks-is, w.c-is, w.past-c.ensures)
-    (element_on c.loop.invariant (omega (arith, c.loop-test.true)) _ _ (sym w.in_ok-row.ensures) w.in_default.ensures _ _ (rw (← w.style.ensures) w.letters-letters.ensures) w.item_width.ensures)
+      rw (w.marks-is, w.c-is, w.past-c.ensures)
+      (element_on c.loop.invariant (omega (arith, c.loop-test.true)) _ _ (sym w.in_ok-row.ensures) w.in_default.ensures _ _ (rw (← w.style.ensures) w.letters-letters.ensures) w.item_width.ensures)
 ])
 
 pub size_items-returns : goal.size_items-returns
@@ -91,8 +91,8 @@ size_values-loop-preserved t c = rw turned (elim c.match-take_row.branch [
   | size_values-in-Some-Number w ↦ rw (w.marks-is, w.c-is, w.past-c.ensures) (values_leaf c.loop.invariant (omega (arith, c.loop-test.true)) _ _ (rw w.in-Some-Number.field-0-is at w.in-Some-Number.ensures))
   | size_values-in-Some-Letters w ↦ rw (w.marks-is, w.c-is, w.past-c-in-Some-Letters.ensures) (values_leaf c.loop.invariant (omega (arith, c.loop-test.true)) _ _ (rw w.in-Some-Letters.field-0-is at w.in-Some-Letters.ensures))
   | size_values-in-Some-Parent+in_ok-e-in-Some-Parent w ↦
-    rw (w.marks-is, w.c-is, w.close-c.ensures.0)
-    (nest_on c.loop.invariant (omega (arith, c.loop-test.true)) _ _ (rw w.in-Some-Parent.field-0-is at w.in-Some-Parent.ensures) _ w.size_children.auto.marks _ w.in_ok-e-in-Some-Parent.ensures _ refl _ w.open_head.ensures _ w.close-c.ensures.1 w.close-c.auto.marks)
+      rw (w.marks-is, w.c-is, w.close-c.ensures.0)
+      (nest_on c.loop.invariant (omega (arith, c.loop-test.true)) _ _ (rw w.in-Some-Parent.field-0-is at w.in-Some-Parent.ensures) _ w.size_children.auto.marks _ w.in_ok-e-in-Some-Parent.ensures _ refl _ w.open_head.ensures _ w.close-c.ensures.1 w.close-c.auto.marks)
   | size_values-in-None+in_ok-c-in-None w ↦ rw (w.marks-is, w.c-is) (other_next c.loop.invariant (omega (arith, c.loop-test.true)) w.in-None.ensures _ w.in_ok-c-in-None.ensures)
 ])
 
