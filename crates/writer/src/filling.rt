@@ -204,6 +204,7 @@ fn fill_values(table: Table, out: &mut [u8], last: usize, start: Cursor) -> Curs
     ensures { Run table.entry.words.now table.entry.text.now out.old last start out.new result }
 {
     let mut c = start;
+    // no range: a cursor goes on by what each row takes
     while c.at < last {
         if table.words[2 * c.row] == Kind::Array as u64 {
             return c;
@@ -228,6 +229,7 @@ fn fill_plain(table: Table, out: &mut [u8], end: usize, start: Cursor) -> Cursor
     ensures { (k : ℕ) (vs : Trees) → Elements table.entry.words.now table.entry.text.now out.old end start k vs → k < 0xd0 → Filled out.old start none vs out.new result }
 {
     let mut c = start;
+    // no range: a cursor goes on by what each row takes
     while c.at < end {
         c = put_item(table, out, c);
     }
@@ -277,6 +279,7 @@ fn fill_rows(table: Table, out: &mut [u8], end: usize, first: usize, start: Curs
 {
     let mut c = start;
     let mut last = first;
+    // no range: a cursor goes on by what each row takes
     while c.at < end {
         let mode = mode_at(c, last);
         if table.words[2 * c.row] == Kind::Array as u64 {

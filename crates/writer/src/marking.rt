@@ -33,7 +33,7 @@ pub struct Begun {
     pub mode: Mode,
 }
 
-// Those that have not ended, the innermost last.
+// Those that have not ended, the innermost last. There is no heap: the room is fixed, and how many there are stands beside it.
 #[derive(Drop)]
 pub struct Stack {
     pub begun: [Begun; LEVELS],

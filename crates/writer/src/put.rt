@@ -1,4 +1,5 @@
-// Stores into the output: big-endian numbers, runs of text, and what begins with a format code.
+// Stores into the output: big-endian numbers, runs of text, and what begins with a format code. Each takes the whole output and a place
+// in it: of a part from there on, each promise would have to say again what the whole is.
 ghost use Rattle.std.specs.Prelude.{◌≡◌, true, [], ◌∷◌, ◌++◌, ◌+◌, ◌%◌, ◌^◌, ◌≤◌, ◌<◌, eqb, length, take, drop};
 ghost use Rattle.std.proofs.lemmas.List.Edits.{sets};
 ghost use Rattle.standard.specs.Choose.{if};
