@@ -109,6 +109,7 @@ fn elements_of(kind: Kind, number: u64) -> Option<Children>
 }
 
 // The children of a row that has some, and whose number is in range.
+#[tactic(auto, using(crate::proofs::Turns::open_parent, crate::proofs::Turns::array_parent))]
 fn children_of(kind: Kind, number: u64) -> Option<Children>
     ensures { children_is result ≡ parent_of (style_of (kind_is kind)) (kind_is kind) number }
 {
@@ -168,6 +169,7 @@ fn take_kind(kind: Kind, number: u64, text: &[u8], from: usize) -> Option<Taken>
 
 // The row at `row`, whose text begins at `from`, where so many levels are left.
 // Of a row with 16 bytes of text, an empty compound, a bad row, or where there is none, nothing is told.
+#[tactic(auto, using(crate::proofs::Turns::leaf, crate::proofs::Turns::number_leaf, crate::proofs::Turns::seen_told, crate::proofs::Turns::bare_deep, crate::proofs::Turns::bare_missing, crate::proofs::Turns::bare_strange))]
 fn take_row(table: Table, row: usize, from: usize, levels: usize) -> Option<Taken>
     requires { (2 * row ≤ length table.words.now) × (from ≤ length table.text.now) }
     ensures { Told levels (drop (2 * row) table.entry.words.now) (drop from table.entry.text.now) result }
@@ -194,6 +196,7 @@ fn has_body(kind: Kind) -> bool
 
 // The children of the element at `row`, in an array that tells that kind, where it is a good list, map or array that has some.
 // Where the array tells another kind, as most do, no row is looked at.
+#[tactic(auto, using(crate::proofs::Turns::bare_deep, crate::proofs::Turns::bare_missing, crate::proofs::Turns::bare_low, crate::proofs::Turns::bare_unlike, crate::proofs::Turns::nested_is))]
 fn take_element(table: Table, row: usize, levels: usize, told: Kind) -> Option<Children>
     requires { (2 * row ≤ length table.words.now) × T (member (style_of (kind_is told))) }
     ensures { Nested levels (kind_is told) (drop (2 * row) table.entry.words.now) result }
