@@ -1,4 +1,6 @@
 // The 40 format codes of AMQP 1.0 (Part 1, 1.6; docs/FORMAT.md, 4.1).
+// They are named bytes, as they stand in what is written and read: an enum of them would be a second table beside that of `entry_of`,
+// which turns a code into types.
 ghost use Rattle.std.specs.Prelude.{◌≡◌, Some};
 ghost use Rattle.standard.specs.Codes.{entry_of};
 ghost use Rattle.standard.specs.InCode.{entry_is};

@@ -102,6 +102,7 @@ impl From<Kind> for u64 {
 // The shorter forms of a number, by their format codes.
 #[derive(Clone, Copy)]
 pub enum Short {
+    // There is none. A form like the others: whoever writes a number goes over all four.
     Never,
     // For 1, and for 0.
     Flag(u8, u8),
@@ -250,7 +251,7 @@ pub fn fits_byte(number: u64, width: usize) -> bool
     number < 128 || width <= 8 && least_negative(width) <= number
 }
 
-// How many elements the number of an array's row counts.
+// How many elements an array's row counts.
 #[tactic(auto, unfolding(crate::specs::Kinds::count_in))]
 pub fn count_of_elements(number: u64) -> u64
     ensures { result ≡ count_in number }
@@ -258,7 +259,7 @@ pub fn count_of_elements(number: u64) -> u64
     number % KIND_UNIT
 }
 
-// The kind that it tells of them.
+// The kind that it tells of its elements, where the number names one.
 #[tactic(auto, unfolding(crate::specs::Kinds::kind_in))]
 pub fn kind_of_elements(number: u64) -> Result<Kind, UnknownKind>
     ensures { Names (kind_in number) result }
