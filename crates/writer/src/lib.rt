@@ -60,6 +60,7 @@ fn size_table(limit: usize, table: Table, marks: &mut [u8]) -> Result<Extent, Re
 }
 
 // The length of what would be written within a level limit.
+#[tactic(auto, using(crate::proofs::Whole::fits_size, crate::proofs::Sums::handed_on))]
 pub fn size_within(limit: usize, words: &[u64], text: &[u8]) -> Result<usize, Refusal>
     ensures { written_is result ≡ outcome.size limit words.now text.now }
 {
@@ -86,6 +87,7 @@ fn put_near(near: &[u8], n: usize, m: usize, out: &mut [u8])
 }
 
 // Sizes a table for an output. If there is room for it, marks that are kept near are put to the end of its bytes.
+#[tactic(auto, using(crate::proofs::Writes::marks_inside, crate::proofs::Writes::writable, crate::proofs::Writes::write_no, crate::proofs::Writes::write_short, crate::proofs::Writes::write_good, crate::proofs::Sums::handed_on))]
 fn size_for(limit: usize, table: Table, out: &mut [u8]) -> Result<Extent, Refusal>
     ensures { SizedFor limit table.entry.words.now table.entry.text.now out.old out.new result }
 {
@@ -120,6 +122,7 @@ fn write_table(table: Table, n: usize, m: usize, out: &mut [u8])
 }
 
 // Writes a table to the front of the output within a level limit, or refuses and leaves the output as it is.
+#[tactic(auto, using(crate::proofs::Writes::parts, crate::proofs::Sums::handed_on))]
 pub fn write_within(
     limit: usize,
     words: &[u64],

@@ -78,6 +78,7 @@ fn is_naming(style: Style, number: u64) -> bool
 }
 
 // The row at `row`, whose text begins at `from`, where so many levels are left, in no array or in one that tells that kind of its elements.
+#[tactic(auto, using(crate::proofs::Checks::check_missing, crate::proofs::Checks::check_kind, crate::proofs::Checks::check_deep, crate::proofs::Checks::check_element, crate::proofs::Checks::check_number, standard::specs::Facts::known))]
 pub(crate) fn check_row(
     table: Table,
     row: usize,

@@ -1,4 +1,4 @@
--- `check_row` makes the checks in the order of the definition; each outcome is a law of proofs/Checks.antt.
+-- `check_row` makes the checks in the order of the definition; each outcome is a law of proofs/Checks.antt. The last are those of the text.
 use mathlib.Core.Path.{◌≡◌, sym}
 use mathlib.Core.Bool.{true}
 use native.Mathlib.Omega.{arith}
@@ -8,7 +8,7 @@ use Rattle.standard.specs.InCode.{style_is}
 use Rattle.standard.specs.Kinds.{style_of, is_kind}
 use Rattle.standard.specs.Table.{allowed, ranged, letters}
 use Rattle.writer.specs.InCode.{spot_is}
-use Rattle.writer.proofs.Checks.{check_missing, check_kind, check_deep, check_element, check_number, check_short, check_text, check_whole, good_part}
+use Rattle.writer.proofs.Checks.{check_short, check_text, check_whole, good_part}
 use Rattle.writer.proofs.row.check_row.Goals as goal
 use Rattle.writer.proofs.row.check_row.Goals.{In-Ok, Else-not-is_allowed, Else-not-takes, After-style-style, After-letters-count}
 
@@ -27,21 +27,6 @@ ranges c = rw (← styled (goal.at.Else-not-takes c).After-style-style, ← c.ta
 
 long : (c : After-letters-count) → c.letters-count.result ≡ letters (style_of c.in-Some.word) c.in-Some.number
 long c = rw (← styled (goal.at.After-letters-count c).After-style-style) c.letters-count.ensures
-
-pub returns-in_default : goal.returns-in_default
-returns-in_default c = rw c.refuse.ensures (sym (check_missing _ _ _ _ _ _ c.in_default.ensures))
-
-pub returns-in_default-try_from : goal.returns-in_default-try_from
-returns-in_default-try_from c = rw (c.refuse-in_default-try_from.ensures, c.in-Some.ensures) (sym (check_kind _ _ _ _ _ _ _ _ c.in_default-try_from.ensures))
-
-pub returns-then-levels-eq0 : goal.returns-then-levels-eq0
-returns-then-levels-eq0 c = rw (c.refuse-then-levels-eq0.ensures, c.in-Some.ensures) (sym (check_deep _ _ _ _ _ _ _ _ (of_kind (goal.at.returns-then-levels-eq0 c).In-Ok) c.if-levels-eq0.true))
-
-pub returns-then-not-is_allowed : goal.returns-then-not-is_allowed
-returns-then-not-is_allowed c = rw (c.refuse-then-not-is_allowed.ensures, c.in-Some.ensures) (sym (check_element _ _ _ _ _ _ _ (of_kind (goal.at.returns-then-not-is_allowed c).In-Ok) _ (omega (arith, c.if-levels-eq0.false)) (rw (← c.in-Ok.ensures, ← c.is_allowed.ensures) c.if-not-is_allowed.true)))
-
-pub returns-then-not-takes : goal.returns-then-not-takes
-returns-then-not-takes c = rw (c.refuse-then-not-takes.ensures, c.in-Some.ensures, c.outside.ensures, styled (goal.at.returns-then-not-takes c).After-style-style) (sym (check_number _ _ _ _ _ _ _ (of_kind (goal.at.returns-then-not-takes c).In-Ok) _ (omega (arith, c.if-levels-eq0.false)) (fits (goal.at.returns-then-not-takes c).Else-not-is_allowed) (rw (← styled (goal.at.returns-then-not-takes c).After-style-style, ← c.takes.ensures) c.if-not-takes.true)))
 
 pub returns-then-table-from : goal.returns-then-table-from
 returns-then-table-from c = rw (c.refuse-then-table-from.ensures, c.in-Some.ensures) (sym (check_short _ _ _ _ _ _ _ (of_kind (goal.at.returns-then-table-from c).In-Ok) (fits (goal.at.returns-then-table-from c).Else-not-is_allowed) (ranges (goal.at.returns-then-table-from c).Else-not-takes) _ (omega (arith, c.if-levels-eq0.false)) (rw (length-drop, ← long (goal.at.returns-then-table-from c).After-letters-count) c.if-table-from.true)))
