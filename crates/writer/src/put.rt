@@ -96,6 +96,7 @@ fn put_sized<const N: usize>(out: &mut [u8], at: usize, code: u8, body: u64, cou
 }
 
 // What stands before a body of so many bytes: the code, the size and the count of a list, a map or an array.
+#[tactic(auto, unfolding(crate::specs::Heads::enclosure))]
 pub(crate) fn put_enclosure(
     out: &mut [u8],
     at: usize,
@@ -134,6 +135,7 @@ fn put_flag(out: &mut [u8], at: usize, one: u8, zero: u8, number: u64) -> usize
 }
 
 // An unsigned number: a code for 0, or a code and a byte, or a code and all bytes.
+#[tactic(auto, unfolding(standard::specs::Encode::shortest))]
 fn put_unsigned<const N: usize>(
     out: &mut [u8],
     at: usize,
@@ -155,6 +157,7 @@ fn put_unsigned<const N: usize>(
 }
 
 // A number in two's complement: a code and a byte, or a code and all bytes.
+#[tactic(auto, unfolding(standard::specs::Encode::shortest))]
 fn put_signed<const N: usize>(out: &mut [u8], at: usize, byte: u8, code: u8, number: u64) -> usize
     requires { (N ≤ 8) × (at + length (shortest (signed byte) N code number) ≤ length out.old) }
     ensures { Put (shortest (signed byte) N code number) out.old at out.new result }
@@ -184,6 +187,7 @@ fn put_run<const N: usize>(
 }
 
 // A text behind its length: a code and a byte, or a code and four bytes.
+#[tactic(auto, unfolding(crate::specs::Direct::spelled))]
 fn put_lettered(
     out: &mut [u8],
     at: usize,

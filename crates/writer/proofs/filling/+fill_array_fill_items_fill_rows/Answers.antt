@@ -75,9 +75,6 @@ fill_array-returns t c = λ k v g.
     let f = array_in c.args.mode g c.requires.0 _ _ c.put_array-first.ensures in
     f.done _ _ (c.fill_items.ensures f.cs (rw c.told_kind-told.ensures (f.due _ (ap (λ (x : ℕ). c.put_array-first.result.at + x) (elements_here t (goal.at.fill_array-returns t c).After-body_at-elements)))))
 
-pub fill_items-fill_plain-requires : goal.fill_items-fill_plain-requires
-fill_items-fill_plain-requires t c = (_, c.requires.0, (let d = c.in_default in plain_kind _ (d.not-List, d.not-Map, d.not-Array)), c.requires.1)
-
 pub fill_items-fill_rows-requires : goal.fill_items-fill_rows-requires
 fill_items-fill_rows-requires t c = (omega (arith), (_, none, c.requires.0, rows_of c.requires.1 (nested_kind _ c.in-List.is)))
 

@@ -1,7 +1,7 @@
 -- `fill_values` writes value after value.
 use mathlib.Core.Path.{refl, ap, ◌∙◌}
 use native.Mathlib.Omega.{arith}
-use Rattle.writer.proofs.Rows.{no_array, ran_none, ran_row, ran_ready, ran_on, ran_end}
+use Rattle.writer.proofs.Rows.{no_array, ran_none, ran_row, ran_ready, ran_on}
 use Rattle.writer.proofs.filling.fill_values.Goals as goal
 
 pub loop-c-init : goal.loop-c-init
@@ -16,12 +16,6 @@ offset_bounds-table-c c = omega (arith, ran_row c.loop-c.invariant.1 c.requires 
 pub bounds-table-c : goal.bounds-table-c
 bounds-table-c c = omega (arith, ran_row c.loop-c.invariant.1 c.requires c.loop-c-test.true)
 
-pub shape_of-out-then-table-c : goal.shape_of-out-then-table-c
-shape_of-out-then-table-c c = c.loop-c.invariant.0
-
-pub returns-then-table-c : goal.returns-then-table-c
-returns-then-table-c c = ran_end c.loop-c.invariant.1 (λ h. c.if-table-c.true)
-
 pub put_value-c-requires : goal.put_value-c-requires
 put_value-c-requires c = let i = no_array _ c.if-table-c.false in (ran_ready c.loop-c.invariant.1 c.requires c.loop-c-test.true i, i)
 
@@ -30,6 +24,3 @@ loop-c-smaller c = omega (arith, ran_row c.loop-c.invariant.1 c.requires c.loop-
 
 pub loop-c-preserved : goal.loop-c-preserved
 loop-c-preserved c = (c.put_value-c.auto.out ∙ c.loop-c.invariant.0, ran_on c.loop-c.invariant.1 c.loop-c-test.true (no_array _ c.if-table-c.false) c.put_value-c.ensures)
-
-pub returns : goal.returns
-returns c = ran_end c.loop-c.invariant.1 (λ h. absurd (omega (arith, c.loop-c-test.false)))

@@ -1,14 +1,11 @@
 -- `put_nested` writes size and count, which are all of the row.
 use mathlib.Core.Path.{refl}
 use native.Mathlib.Omega.{arith}
-use Rattle.writer.proofs.Cursors.{nested_parts, part_put, part_sums}
+use Rattle.writer.proofs.Cursors.{nested_parts, part_put}
 use Rattle.writer.proofs.filling.put_nested.Goals as goal
 
 pub put_fields-requires : goal.put_fields-requires
 put_fields-requires c = let o = nested_parts _ _ _ _ c.requires.0 c.requires.1 _ c.requires.2 _ refl in (omega (arith, c.requires.3), omega (arith, o.size, o.ready.room))
-
-pub behind-requires : goal.behind-requires
-behind-requires c = let o = part_sums (nested_parts _ _ _ _ c.requires.0 c.requires.1 _ c.requires.2 _ c.mark_width.ensures) (omega arith) (omega arith) (omega arith) in (o.0, o.1, omega (arith, o.2), o.3)
 
 pub returns : goal.returns
 returns c = part_put (nested_parts _ _ _ _ c.requires.0 c.requires.1 _ c.requires.2 _ c.mark_width.ensures) _ _ c.put_fields.ensures c.behind.ensures

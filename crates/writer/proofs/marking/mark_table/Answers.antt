@@ -21,9 +21,6 @@ pop-requires c = let a = left_small (c.loop-c.invariant c.requires.tree c.requir
 pub close-c-requires : goal.close-c-requires
 close-c-requires c = (ended (c.loop-c.invariant c.requires.tree c.requires.fits) (omega (arith, c.if-c-gt0.false)) c.in-Some.ensures.0 (few_words c.requires.fits) _ c.in-Some.ensures.1).can
 
-pub loop-c-smaller : goal.loop-c-smaller
-loop-c-smaller c = rw (c.close-c.ensures.0, c.in-Some.ensures.2) (ended (c.loop-c.invariant c.requires.tree c.requires.fits) (omega (arith, c.if-c-gt0.false)) c.in-Some.ensures.0 (few_words c.requires.fits) _ c.in-Some.ensures.1).less
-
 pub loop-c-preserved : goal.loop-c-preserved
 loop-c-preserved c = λ v k. rw (c.close-c.ensures.0, c.close-c.ensures.1, c.in-Some.ensures.2) (ended (c.loop-c.invariant v k) (omega (arith, c.if-c-gt0.false)) c.in-Some.ensures.0 (few_words k) _ c.in-Some.ensures.1).due
 
