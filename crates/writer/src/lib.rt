@@ -32,7 +32,7 @@ use sizing::Extent;
 use standard::refusal::{Reason, Refusal};
 use standard::{kind, limit};
 
-// So many bytes of marks are kept beside the output: those of 200 compounds.
+// So many bytes of marks are kept beside the output: those of 200 compounds. They have fixed memory, since nothing here takes from the heap.
 const NEAR: usize = 600;
 
 // Sizes a whole table within a level limit, and leaves its marks where there is room for them.
@@ -64,6 +64,7 @@ fn size_table(limit: usize, table: Table, marks: &mut [u8]) -> Result<Extent, Re
 pub fn size_within(limit: usize, words: &[u64], text: &[u8]) -> Result<usize, Refusal>
     ensures { written_is result ≡ outcome.size limit words.now text.now }
 {
+    // no room for marks: they are for writing
     let mut marks = [0u8; 0];
     let all = size_table(limit, Table { words, text }, &mut marks)?;
     Ok(all.size)

@@ -93,7 +93,7 @@ pub(crate) fn size_number(kind: Kind, number: u64) -> Option<usize>
 }
 
 // Plain are most numbers: those whose kind has a small lower half, if they are not negative. Their size is computed, with no branch for each kind:
-// kinds come in any order, and a branch that was guessed wrong costs more than the rest of a turn.
+// kinds come in any order, and a branch that was guessed wrong costs more than the rest of a turn. So a kind is its number here, and not yet a `Kind`.
 
 // Of the kinds with that upper half those are plain whose lower half is below this.
 fn plain_below(upper: u64) -> u64
@@ -109,7 +109,7 @@ fn plain_below(upper: u64) -> u64
     }
 }
 
-// The largest number of a kind with that upper half.
+// The largest number of a kind with that upper half. Not one table with the last: each is asked where the other is not needed yet.
 fn plain_most(upper: u64) -> u64
     ensures { result < 256 ^ (2 ^ upper / 32) }
 {

@@ -214,7 +214,7 @@ fn take_element(table: Table, row: usize, levels: usize, told: Kind) -> Option<C
     children_of(told, number)
 }
 
-// Stores a mark where there is room for it.
+// Stores a mark where there is room for it. That of a described value has no bytes.
 #[tactic(auto, unfolding(standard::specs::Bytes::be))]
 fn put_mark(marks: &mut [u8], at: usize, width: usize, body: usize)
     requires { ((width ≡ 0 → ⊥) → width ≡ 3) × (at + 3 < 2 ^ 64) }
