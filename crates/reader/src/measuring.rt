@@ -7,19 +7,19 @@
 ghost use Rattle.std.specs.Prelude.{◌≡◌, true, false, ℕ, ◌+◌, ◌^◌, ◌≤◌, ◌<◌, T, length, take, drop, IfOk, MatchOption};
 ghost use Rattle.standard.specs.Bytes.{unbe};
 ghost use Rattle.standard.specs.Codes as codes;
-ghost use Rattle.standard.specs.Codes.{layout_of, kind_of};
+ghost use Rattle.standard.specs.Codes.{layout_of, kind_of, entry_of};
 ghost use Rattle.standard.specs.Kinds.{fair, paired};
 ghost use Rattle.standard.specs.Read as read;
 ghost use Rattle.standard.specs.Outcomes as outcome;
 ghost use Rattle.standard.specs.Outcomes.{level_default};
-ghost use Rattle.standard.specs.InCode.{kind_is, reason_is};
+ghost use Rattle.standard.specs.InCode.{kind_is, entry_is};
 ghost use Rattle.reader.specs.Entries.{narrow, sure, plain_below, plain_width};
 ghost use Rattle.reader.specs.InCode.{measured_is, extent_is, Settled, found_is, counted_is, body_is};
 ghost use Rattle.reader.specs.Measuring.{block, measured, several, contents, above, closed, below, reads, reach, code_at, element_of, is_compound, Taking, Plain};
 ghost use Rattle.reader.specs.declared.measuring.Stop.TheVariants.{Refused};
 
 use crate::number::narrow_at;
-use standard::format_code::Layout;
+use standard::format_code::{Entry, Layout};
 use standard::kind::Kind;
 use standard::refusal::{Reason, Refusal};
 use standard::{format_code, limit};
@@ -192,6 +192,21 @@ fn is_paired(kind: Kind, count: usize) -> bool
     }
 }
 
+// The entry of a code. The call answers through memory, which is not kept beyond this function: so a level takes 32 bytes less of the
+// stack, also than with `?` here.
+#[inline(always)]
+fn entry_of(code: u8) -> Option<Entry>
+    ensures { entry_is code result ≡ entry_of code }
+{
+    match format_code::entry_of(code) {
+        Some(entry) => Some(Entry {
+            kind: entry.kind,
+            layout: entry.layout,
+        }),
+        None => None,
+    }
+}
+
 // A payload of an element has a byte at least.
 #[tactic(auto, unfolding(crate::specs::Measuring::element_of, standard::specs::Codes::is_code, standard::specs::Codes::element, standard::specs::Codes::filled))]
 fn filled(width: usize, place: usize) -> Result<(), Stop>
@@ -208,7 +223,7 @@ fn filled(width: usize, place: usize) -> Result<(), Stop>
 fn element_of(code: u8, place: usize) -> Result<(), Stop>
     ensures { found_is result ≡ element_of place (layout_of code) }
 {
-    let Some(entry) = format_code::entry_of(code) else {
+    let Some(entry) = entry_of(code) else {
         return Err(refused(Reason::CodeUnknown, place));
     };
     match entry.layout {
@@ -249,14 +264,16 @@ fn done(values: Extent, room: usize, whole: usize, place: usize) -> Result<Exten
 }
 
 // A refusal in the contents of an array has the array's place, but for that of a byte of text.
+// By `map_err` a level would take 16 bytes more of the stack, of which reading may take no more than it does.
 #[tactic(auto, unfolding(standard::specs::Read::held))]
 fn held(contents: Result<Extent, Stop>, place: usize) -> Result<Extent, Stop>
     ensures { counted_is result ≡ read.held place (counted_is contents) }
 {
-    contents.map_err(|stop| match stop {
-        Stop::Refused(refusal) => Stop::Refused(Refusal { place, ..refusal }),
-        Stop::Faulty(byte) => Stop::Faulty(byte),
-    })
+    match contents {
+        Ok(extent) => Ok(extent),
+        Err(Stop::Refused(refusal)) => Err(refused(refusal.reason, place)),
+        Err(Stop::Faulty(byte)) => Err(Stop::Faulty(byte)),
+    }
 }
 
 // The code of a value that begins there, which is its first byte unless the value stands behind one that is given, as the elements of
@@ -405,7 +422,7 @@ fn behind(room: Room, code: u8, levels: usize) -> Result<Extent, Stop>
     requires { (0 < levels) × (is_compound (layout_of code) ≡ false) }
     ensures { counted_is result ≡ measured (length room.entry.bytes.now) (read.payload levels code room.entry.place room.entry.bytes.now) }
 {
-    let Some(entry) = format_code::entry_of(code) else {
+    let Some(entry) = entry_of(code) else {
         return Err(refused(Reason::CodeUnknown, room.place));
     };
     match entry.layout {
