@@ -36,8 +36,8 @@ use standard::{kind, limit};
 const NEAR: usize = 600;
 
 // Sizes a whole table within a level limit, and leaves its marks where there is room for them.
-fn size_table(limit: usize, table: Table, marks: &mut [u8]) -> Result<Extent, Refusal>
-    ensures { TableSized limit table.entry.words.now table.entry.text.now marks.old marks.new result }
+fn size_table(limit: usize, table: &Table, marks: &mut [u8]) -> Result<Extent, Refusal>
+    ensures { TableSized limit table.now.words.now table.now.text.now marks.old marks.new result }
 {
     if !limit::is_in_force(limit) {
         return Err(refuse(Reason::LimitOutside, 0));
@@ -66,7 +66,7 @@ pub fn size_within(limit: usize, words: &[u64], text: &[u8]) -> Result<usize, Re
 {
     // no room for marks: they are for writing
     let mut marks = [0u8; 0];
-    let all = size_table(limit, Table { words, text }, &mut marks)?;
+    let all = size_table(limit, &Table { words, text }, &mut marks)?;
     Ok(all.size)
 }
 
@@ -89,8 +89,8 @@ fn put_near(near: &[u8], n: usize, m: usize, out: &mut [u8])
 
 // Sizes a table for an output. If there is room for it, marks that are kept near are put to the end of its bytes.
 #[tactic(auto, using(crate::proofs::Writes::marks_inside, crate::proofs::Writes::writable, crate::proofs::Writes::write_no, crate::proofs::Writes::write_short, crate::proofs::Writes::write_good, crate::proofs::Sums::handed_on))]
-fn size_for(limit: usize, table: Table, out: &mut [u8]) -> Result<Extent, Refusal>
-    ensures { SizedFor limit table.entry.words.now table.entry.text.now out.old out.new result }
+fn size_for(limit: usize, table: &Table, out: &mut [u8]) -> Result<Extent, Refusal>
+    ensures { SizedFor limit table.now.words.now table.now.text.now out.old out.new result }
 {
     let mut near = [0u8; NEAR];
     let e = size_table(limit, table, &mut near)?;
@@ -113,13 +113,13 @@ fn put_far(words: &[u64], n: usize, m: usize, out: &mut [u8])
 }
 
 // Writes a table of n bytes with m bytes of marks, which are at their place if they were kept near.
-fn write_table(table: Table, n: usize, m: usize, out: &mut [u8])
-    requires { (before : List ℕ) × Writable table.words.now table.text.now n m before out.old }
-    ensures { (before : List ℕ) → Writable table.entry.words.now table.entry.text.now n m before out.old
-        → out.new ≡ sets before 0 (bytes_in (tables.table level_most table.entry.words.now table.entry.text.now)) }
+fn write_table(table: &Table, n: usize, m: usize, out: &mut [u8])
+    requires { (before : List ℕ) × Writable table.now.words.now table.now.text.now n m before out.old }
+    ensures { (before : List ℕ) → Writable table.now.words.now table.now.text.now n m before out.old
+        → out.new ≡ sets before 0 (bytes_in (tables.table level_most table.now.words.now table.now.text.now)) }
 {
     put_far(table.words, n, m, out);
-    filling::fill(table, out, n, n - m);
+    filling::fill(*table, out, n, n - m);
 }
 
 // Writes a table to the front of the output within a level limit, or refuses and leaves the output as it is.
@@ -134,8 +134,8 @@ pub fn write_within(
         × (out.new ≡ (outcome.write limit words.now text.now out.old).out) }
 {
     let table = Table { words, text };
-    let e = size_for(limit, table, out)?;
-    write_table(table, e.size, e.mark, out);
+    let e = size_for(limit, &table, out)?;
+    write_table(&table, e.size, e.mark, out);
     Ok(e.size)
 }
 

@@ -20,9 +20,9 @@ pub struct Table<'a> {
 
 impl<'a> Table<'a> {
     // The two words of a row, its kind and its number, where it has both.
-    pub fn row(self, row: usize) -> Option<(u64, u64)>
-        requires { 2 * row ≤ length self.words.now }
-        ensures { Front (drop (2 * row) self.entry.words.now) result }
+    pub fn row(&self, row: usize) -> Option<(u64, u64)>
+        requires { 2 * row ≤ length self.now.words.now }
+        ensures { Front (drop (2 * row) self.now.words.now) result }
     {
         let k = 2 * row;
         if self.words.len() - k < 2 {
@@ -80,14 +80,14 @@ fn is_naming(style: Style, number: u64) -> bool
 // The row at `row`, whose text begins at `from`, where so many levels are left, in no array or in one that tells that kind of its elements.
 #[tactic(auto, using(crate::proofs::Checks::check_missing, crate::proofs::Checks::check_kind, crate::proofs::Checks::check_deep, crate::proofs::Checks::check_element, crate::proofs::Checks::check_number, standard::specs::Facts::known))]
 pub(crate) fn check_row(
-    table: Table,
+    table: &Table,
     row: usize,
     from: usize,
     levels: usize,
     told: Option<Kind>,
 ) -> Result<Row, Refusal>
-    requires { (2 * row ≤ length table.words.now) × (from ≤ length table.text.now) }
-    ensures { checked_is result ≡ check levels (spot_is told) row from (drop (2 * row) table.entry.words.now) (drop from table.entry.text.now) }
+    requires { (2 * row ≤ length table.now.words.now) × (from ≤ length table.now.text.now) }
+    ensures { checked_is result ≡ check levels (spot_is told) row from (drop (2 * row) table.now.words.now) (drop from table.now.text.now) }
 {
     let Some((word, number)) = table.row(row) else {
         return Err(refuse(Reason::RowsAmiss, row));

@@ -170,9 +170,9 @@ fn take_kind(kind: Kind, number: u64, text: &[u8], from: usize) -> Option<Taken>
 // The row at `row`, whose text begins at `from`, where so many levels are left.
 // Of a row with 16 bytes of text, an empty compound, a bad row, or where there is none, nothing is told.
 #[tactic(auto, using(crate::proofs::Turns::leaf, crate::proofs::Turns::number_leaf, crate::proofs::Turns::seen_told, crate::proofs::Turns::bare_deep, crate::proofs::Turns::bare_missing, crate::proofs::Turns::bare_strange))]
-fn take_row(table: Table, row: usize, from: usize, levels: usize) -> Option<Taken>
-    requires { (2 * row ≤ length table.words.now) × (from ≤ length table.text.now) }
-    ensures { Told levels (drop (2 * row) table.entry.words.now) (drop from table.entry.text.now) result }
+fn take_row(table: &Table, row: usize, from: usize, levels: usize) -> Option<Taken>
+    requires { (2 * row ≤ length table.now.words.now) × (from ≤ length table.now.text.now) }
+    ensures { Told levels (drop (2 * row) table.now.words.now) (drop from table.now.text.now) result }
 {
     if levels == 0 {
         return None;
@@ -197,9 +197,9 @@ fn has_body(kind: Kind) -> bool
 // The children of the element at `row`, in an array that tells that kind, where it is a good list, map or array that has some.
 // Where the array tells another kind, as most do, no row is looked at.
 #[tactic(auto, using(crate::proofs::Turns::bare_deep, crate::proofs::Turns::bare_missing, crate::proofs::Turns::bare_low, crate::proofs::Turns::bare_unlike, crate::proofs::Turns::nested_is))]
-fn take_element(table: Table, row: usize, levels: usize, told: Kind) -> Option<Children>
-    requires { (2 * row ≤ length table.words.now) × T (member (style_of (kind_is told))) }
-    ensures { Nested levels (kind_is told) (drop (2 * row) table.entry.words.now) result }
+fn take_element(table: &Table, row: usize, levels: usize, told: Kind) -> Option<Children>
+    requires { (2 * row ≤ length table.now.words.now) × T (member (style_of (kind_is told))) }
+    ensures { Nested levels (kind_is told) (drop (2 * row) table.now.words.now) result }
 {
     if !has_body(told) {
         return None;
@@ -238,9 +238,9 @@ fn past_good(c: Extent, row: Row) -> Extent
 }
 
 // Behind the row at `c`, whatever it is but one with children.
-fn size_row(table: Table, levels: usize, c: Extent) -> Result<Extent, Refusal>
-    requires { Within table.words.now table.text.now c × Bare levels any (drop (2 * c.row) table.words.now) }
-    ensures { answer_is result ≡ passed c (check levels any c.row c.text (drop (2 * c.row) table.entry.words.now) (drop c.text table.entry.text.now)) }
+fn size_row(table: &Table, levels: usize, c: Extent) -> Result<Extent, Refusal>
+    requires { Within table.now.words.now table.now.text.now c × Bare levels any (drop (2 * c.row) table.now.words.now) }
+    ensures { answer_is result ≡ passed c (check levels any c.row c.text (drop (2 * c.row) table.now.words.now) (drop c.text table.now.text.now)) }
 {
     let row = row::check_row(table, c.row, c.text, levels, None)?;
     Ok(past_good(c, row))
@@ -295,15 +295,15 @@ fn close(marks: &mut [u8], c: Extent, kind: Kind, head: usize, body: usize, e: E
 #[cycle(size_children_size_items_size_values)]
 #[inline(always)]
 fn size_children(
-    table: Table,
+    table: &Table,
     kind: Kind,
     children: Children,
     levels: usize,
     marks: &mut [u8],
     c: Extent,
 ) -> Result<Extent, Refusal>
-    requires { Within table.words.now table.text.now (inside c (kind_is kind)) × (0 < levels) × (0 < children_count children) × Sure (children_spot children) }
-    ensures { Finds table.entry.words.now table.entry.text.now (levels - 1) (children_spot children) (children_count children) (inside c (kind_is kind)) marks.old marks.new (answer_is result) }
+    requires { Within table.now.words.now table.now.text.now (inside c (kind_is kind)) × (0 < levels) × (0 < children_count children) × Sure (children_spot children) }
+    ensures { Finds table.now.words.now table.now.text.now (levels - 1) (children_spot children) (children_count children) (inside c (kind_is kind)) marks.old marks.new (answer_is result) }
 {
     let first = c.inside(kind);
     if levels == 1 {
@@ -320,9 +320,9 @@ fn size_children(
 }
 
 // The element at `c`, by the checks of every row. A call of its own, as `size_children` is: what it takes of the stack is free again behind it.
-fn check_element(table: Table, told: Kind, levels: usize, c: Extent) -> Result<Row, Refusal>
-    requires { (2 * c.row ≤ length table.words.now) × (c.text ≤ length table.text.now) }
-    ensures { checked_is result ≡ check levels (like (kind_is told)) c.row c.text (drop (2 * c.row) table.entry.words.now) (drop c.text table.entry.text.now) }
+fn check_element(table: &Table, told: Kind, levels: usize, c: Extent) -> Result<Row, Refusal>
+    requires { (2 * c.row ≤ length table.now.words.now) × (c.text ≤ length table.now.text.now) }
+    ensures { checked_is result ≡ check levels (like (kind_is told)) c.row c.text (drop (2 * c.row) table.now.words.now) (drop c.text table.now.text.now) }
 {
     // named, as in `size_children`
     let checked = row::check_row(table, c.row, c.text, levels, Some(told));
@@ -330,9 +330,9 @@ fn check_element(table: Table, told: Kind, levels: usize, c: Extent) -> Result<R
 }
 
 // The row at `c`, of which nothing was told. A call of its own too.
-fn size_other(table: Table, levels: usize, c: Extent) -> Result<Extent, Refusal>
-    requires { Within table.words.now table.text.now c × Bare levels any (drop (2 * c.row) table.words.now) }
-    ensures { answer_is result ≡ passed c (check levels any c.row c.text (drop (2 * c.row) table.entry.words.now) (drop c.text table.entry.text.now)) }
+fn size_other(table: &Table, levels: usize, c: Extent) -> Result<Extent, Refusal>
+    requires { Within table.now.words.now table.now.text.now c × Bare levels any (drop (2 * c.row) table.now.words.now) }
+    ensures { answer_is result ≡ passed c (check levels any c.row c.text (drop (2 * c.row) table.now.words.now) (drop c.text table.now.text.now)) }
 {
     // named, as in `size_children`
     let one = size_row(table, levels, c);
@@ -343,15 +343,15 @@ fn size_other(table: Table, levels: usize, c: Extent) -> Result<Extent, Refusal>
 #[cycle(size_children_size_items_size_values)]
 #[inline(never)]
 fn size_items(
-    table: Table,
+    table: &Table,
     told: Kind,
     count: usize,
     levels: usize,
     marks: &mut [u8],
     start: Extent,
 ) -> Result<Extent, Refusal>
-    requires { Within table.words.now table.text.now start × T (member (style_of (kind_is told))) }
-    ensures { Finds table.entry.words.now table.entry.text.now levels (like (kind_is told)) count start marks.old marks.new (answer_is result) }
+    requires { Within table.now.words.now table.now.text.now start × T (member (style_of (kind_is told))) }
+    ensures { Finds table.now.words.now table.now.text.now levels (like (kind_is told)) count start marks.old marks.new (answer_is result) }
 {
     let mut c = start;
     for _ in 0..count {
@@ -370,14 +370,14 @@ fn size_items(
 // So many values, the first of them at `start`, where so many levels are left.
 #[cycle(size_children_size_items_size_values)]
 pub(crate) fn size_values(
-    table: Table,
+    table: &Table,
     count: usize,
     levels: usize,
     marks: &mut [u8],
     start: Extent,
 ) -> Result<Extent, Refusal>
-    requires { Within table.words.now table.text.now start }
-    ensures { Finds table.entry.words.now table.entry.text.now levels any count start marks.old marks.new (answer_is result) }
+    requires { Within table.now.words.now table.now.text.now start }
+    ensures { Finds table.now.words.now table.now.text.now levels any count start marks.old marks.new (answer_is result) }
 {
     let mut c = start;
     for _ in 0..count {

@@ -19,7 +19,7 @@ pub returns-in_err-e : goal.returns-in_err-e
 returns-in_err-e c = rw (handed_on _ _ c.from_residual.ensures.1) (value_no _ _ _ (sym c.is_in_force.ensures ∙ c.if-not-is_in_force.false) c.if-n-eq1.false _ _ (rw (start c.default.result c.default.ensures) at c.in_err-e.ensures.0))
 
 pub overflow_mul-e : goal.overflow_mul-e
-overflow_mul-e c = omega (arith, row_inside c.args.limit c.args.table.words.now c.args.table.text.now c.in_ok-e.e (rw (start c.default.result c.default.ensures) at c.in_ok-e.ensures.0))
+overflow_mul-e c = omega (arith, row_inside c.args.limit c.args.table.now.words.now c.args.table.now.text.now c.in_ok-e.e (rw (start c.default.result c.default.ensures) at c.in_ok-e.ensures.0))
 
 pub returns-then-e-n : goal.returns-then-e-n
 returns-then-e-n c = rw c.refuse-then-e-n.ensures (rows_left _ _ _ (sym c.is_in_force.ensures ∙ c.if-not-is_in_force.false) c.if-n-eq1.false c.in_ok-e.e (rw (start c.default.result c.default.ensures) at c.in_ok-e.ensures.0) c.if-e-n.true)

@@ -17,11 +17,11 @@ turned : (n i : ℕ) → n - (i + 1) ≡ n - i - 1
 turned n i = omega arith
 
 -- an element without children
-leaf : (t : ℕ) (c : size_items-After-item_width t) → Comes c.args.table.words.now c.args.table.text.now c.args.levels (like (kind_is c.args.told)) c.args.start c.args.count c.args.marks.now (past c.loop.c c.letters-letters.result (c.item_width.result + c.letters-letters.result)) (c.args.count - c.loop.counter - 1) c.loop.marks
+leaf : (t : ℕ) (c : size_items-After-item_width t) → Comes c.args.table.now.words.now c.args.table.now.text.now c.args.levels (like (kind_is c.args.told)) c.args.start c.args.count c.args.marks.now (past c.loop.c c.letters-letters.result (c.item_width.result + c.letters-letters.result)) (c.args.count - c.loop.counter - 1) c.loop.marks
 leaf t c = element_on c.loop.invariant (omega (arith, c.loop-test.true)) _ _ (sym c.in_ok-row.ensures) c.in_default.ensures _ _ (rw (← c.style.ensures) c.letters-letters.ensures) c.item_width.ensures
 
 -- a value with children
-family : (t : ℕ) (c : size_values-In-Some-Parent t) → Family c.args.levels any (drop (2 * c.loop.c.row) c.args.table.words.now) (kind_is c.in-Some-Parent.kind) c.in-Some-Parent.children
+family : (t : ℕ) (c : size_values-In-Some-Parent t) → Family c.args.levels any (drop (2 * c.loop.c.row) c.args.table.now.words.now) (kind_is c.in-Some-Parent.kind) c.in-Some-Parent.children
 family t c = rw c.in-Some-Parent.field-0-is at c.in-Some-Parent.ensures
 
 pub size_children-size_row-none-requires : goal.size_children-size_row-none-requires

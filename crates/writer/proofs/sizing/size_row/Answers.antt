@@ -8,4 +8,4 @@ use Rattle.writer.proofs.Turns.{small, other_on}
 use Rattle.writer.proofs.sizing.size_row.Goals as goal
 
 pub past_good-requires : goal.past_good-requires
-past_good-requires c = small (other_on (comes_self c.args.table.words.now c.args.table.text.now c.args.levels any c.args.c 1 [] c.requires.0 tt) (omega arith) c.requires.1 _ _ (sym c.in_ok-row.ensures)).within (omega arith) (omega arith)
+past_good-requires c = small (other_on (comes_self c.args.table.now.words.now c.args.table.now.text.now c.args.levels any c.args.c 1 [] c.requires.0 tt) (omega arith) c.requires.1 _ _ (sym c.in_ok-row.ensures)).within (omega arith) (omega arith)
