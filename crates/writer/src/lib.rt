@@ -1,4 +1,4 @@
-// The writer: a value table to bytes (docs/FORMAT.md, 3). A port of serde_amqp's src/ser.rs, whose names are kept where the two meet.
+// The writer: a value table to bytes (docs/FORMAT.md, 3). A port of serde_amqp's src/ser.rs.
 //
 // Sizing goes over the rows once, checks everything and finds the bytes that they take; beside that it leaves the sizes of the
 // compounds that it meets, the marks, as far as there is room for them. Only when success is certain is the output touched: the
@@ -46,7 +46,7 @@ fn size_table(limit: usize, table: &Table, marks: &mut [u8]) -> Result<Extent, R
     if n % 2 == 1 {
         return Err(refuse(Reason::RowsAmiss, 0));
     }
-    let e = sizing::size_values(table, 1, limit, marks, Extent::default())?;
+    let e = sizing::size_values(&table, 1, limit, marks, Extent::default())?;
     if 2 * e.row < n {
         return Err(refuse(Reason::RowsAmiss, e.row));
     }
