@@ -193,7 +193,7 @@ fn is_paired(kind: Kind, count: usize) -> bool
 }
 
 // The entry of a code. The call answers through memory, which is not kept beyond this function: so a level takes 32 bytes less of the
-// stack, also than with `?` here.
+// stack, as it does not with `?` in here.
 #[inline(always)]
 fn entry_of(code: u8) -> Option<Entry>
     ensures { entry_is code result ≡ entry_of code }
@@ -264,7 +264,6 @@ fn done(values: Extent, room: usize, whole: usize, place: usize) -> Result<Exten
 }
 
 // A refusal in the contents of an array has the array's place, but for that of a byte of text.
-// By `map_err` a level would take 16 bytes more of the stack, of which reading may take no more than it does.
 #[tactic(auto, unfolding(standard::specs::Read::held))]
 fn held(contents: Result<Extent, Stop>, place: usize) -> Result<Extent, Stop>
     ensures { counted_is result ≡ read.held place (counted_is contents) }
