@@ -365,6 +365,7 @@ fn compound_of(code: u8) -> Option<CompoundCode>
 // So many values, one after another, where so many levels are left.
 // No count is believed: each turn refuses or takes a byte, for a value has its code, and the payload of an element is never empty.
 // So there are never more turns than bytes, and one.
+// Bytes and place are no `Room` here, nor in `inside`: no code need stand in front of the bytes, so the place may be one more.
 #[cycle(array_behind_compound_inside_items_many_payload)]
 fn many(
     s: &[u8],
