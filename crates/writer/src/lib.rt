@@ -46,7 +46,7 @@ fn size_table(limit: usize, table: &Table, marks: &mut [u8]) -> Result<Extent, R
     if n % 2 == 1 {
         return Err(refuse(Reason::RowsAmiss, 0));
     }
-    let e = sizing::size_values(&table, 1, limit, marks, Extent::default())?;
+    let e = sizing::size_values(table, 1, limit, marks, Extent::default())?;
     if 2 * e.row < n {
         return Err(refuse(Reason::RowsAmiss, e.row));
     }

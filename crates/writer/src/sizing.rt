@@ -242,7 +242,7 @@ fn size_row(table: &Table, levels: usize, c: Extent) -> Result<Extent, Refusal>
     requires { Within table.now.words.now table.now.text.now c × Bare levels any (drop (2 * c.row) table.now.words.now) }
     ensures { answer_is result ≡ passed c (check levels any c.row c.text (drop (2 * c.row) table.now.words.now) (drop c.text table.now.text.now)) }
 {
-    let row = row::check_row(*table, c.row, c.text, levels, None)?;
+    let row = row::check_row(table, c.row, c.text, levels, None)?;
     Ok(past_good(c, row))
 }
 
@@ -290,8 +290,6 @@ fn close(marks: &mut [u8], c: Extent, kind: Kind, head: usize, body: usize, e: E
     }
 }
 
-// The functions that call each other take the table behind a reference: a copy of it for each call would take stack at each level.
-
 // The children of a row of that kind at `c`, where so many levels are left for the row. Where none is left for them the first is refused at once.
 // Inlined, and `size_items` not, so that each level takes one frame.
 #[cycle(size_children_size_items_size_values)]
@@ -327,7 +325,7 @@ fn check_element(table: &Table, told: Kind, levels: usize, c: Extent) -> Result<
     ensures { checked_is result ≡ check levels (like (kind_is told)) c.row c.text (drop (2 * c.row) table.now.words.now) (drop c.text table.now.text.now) }
 {
     // named, as in `size_children`
-    let checked = row::check_row(*table, c.row, c.text, levels, Some(told));
+    let checked = row::check_row(table, c.row, c.text, levels, Some(told));
     return checked;
 }
 
@@ -357,7 +355,7 @@ fn size_items(
 {
     let mut c = start;
     for _ in 0..count {
-        if let Some(children) = take_element(*table, c.row, levels, told) {
+        if let Some(children) = take_element(table, c.row, levels, told) {
             let e = size_children(table, told, children, levels, marks, c)?;
             c = close(marks, c, told, nested_head(told), e.size, e);
         } else {
@@ -383,7 +381,7 @@ pub(crate) fn size_values(
 {
     let mut c = start;
     for _ in 0..count {
-        match take_row(*table, c.row, c.text, levels) {
+        match take_row(table, c.row, c.text, levels) {
             Some(Taken::Number { size }) => c = c.past(0, size),
             Some(Taken::Letters { letters, size }) => c = c.past(letters, size),
             Some(Taken::Parent { kind, children }) => {
