@@ -32,7 +32,7 @@ sure k (scalar (sized w)) = not (judged k) && narrow w
 sure k (compound w) = narrow w
 sure k (array w) = narrow w
 
--- Codes of which the code decides by themselves: `plains` and `compounds` of proofs/Entries.antt hold them against the table
+-- Codes of which the code decides by themselves: `plains` of proofs/Entries.antt holds them against the table
 
 -- with that upper half those below this are plain, by their lower half
 abbrev pub plain_below : (upper : ℕ) → ℕ
@@ -47,11 +47,3 @@ plain_width c = 2 ^ (c / 16) / 32
 -- the element codes of short forms; that of a wide form is the kind itself (`wide_kind` of proofs/Entries.antt)
 unfoldable pub short_code : (code : ℕ) → Bool
 short_code c = eqb c 0x52 || (eqb c 0x53 || (eqb c 0x54 || (eqb c 0x55 || (eqb c 0xa0 || (eqb c 0xa1 || (eqb c 0xa3 || (eqb c 0xc0 || (eqb c 0xc1 || eqb c 0xe0))))))))
-
--- the width of the fields of a list or a map, 0 for other codes
-unfoldable pub compound_width : (code : ℕ) → ℕ
-compound_width c = if (eqb c 0xc0) 1 (if (eqb c 0xc1) 1 (if (eqb c 0xd0) 4 (if (eqb c 0xd1) 4 0)))
-
--- the kind of a list or a map
-unfoldable pub compound_kind : (code : ℕ) → ℕ
-compound_kind c = if (eqb c 0xc0) 0xd0 (if (eqb c 0xd0) 0xd0 0xd1)
