@@ -69,7 +69,7 @@ struct Room<'a> {
     ghost inside: { place + 1 + length bytes.now < 2 ^ 63 },
 }
 
-// How many values stand in a body, and where it ends.
+// How many values stand in a body, and where it ends. The count is below 2^32; as a u32 every use of it would widen it again.
 #[derive(Clone, Copy)]
 struct Body {
     count: usize,

@@ -15,7 +15,8 @@ use standard::format_code::{Compound8, Compound32};
 use standard::kind::Kind;
 use standard::{format_code, kind};
 
-// The low N bytes of a number: one store, where a width that is known only as the program runs would take a call.
+// The low N bytes of a number: one store, where a width that is known only as the program runs would take a call. That N is at most 8
+// each asks anew: a const parameter has no invariant.
 fn put_low<const N: usize>(out: &mut [u8], at: usize, number: u64)
     requires { (N ≤ 8) × (at + N ≤ length out.old) }
     ensures { out.new ≡ sets out.old at (be N number) }

@@ -32,7 +32,7 @@ impl<'a> Table<'a> {
     }
 }
 
-// A good row.
+// A good row. What is a table by kind takes kind and number apart: its body is a choice by the one, and may not need the other.
 #[derive(Clone, Copy)]
 pub struct Row {
     pub kind: Kind,
