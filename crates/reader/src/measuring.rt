@@ -404,7 +404,8 @@ fn many(
     })
 }
 
-// What stands behind a code. Lists and maps, of which there are many, do not wait for their entry.
+// What stands behind a code. Lists and maps, of which there are many, do not wait for their entry. `levels` is a plain number: it is
+// counted down to 0, and 0 is asked for.
 #[cycle(array_behind_compound_inside_items_many_payload)]
 fn payload(room: Room, code: u8, levels: usize) -> Result<Extent, Stop>
     requires { 0 < levels }

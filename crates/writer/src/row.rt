@@ -1,4 +1,6 @@
 // A value table, and the checks of one of its rows (docs/FORMAT.md, 2 and 5.2).
+//
+// That a row begins in the table is asked of each function that looks at one: a table has no place in it.
 ghost use Rattle.std.specs.Prelude.{◌≡◌, true, ◌+◌, ◌*◌, ◌≤◌, length, drop, get_or};
 ghost use Rattle.standard.specs.Answer.{element_unfit, number_outside};
 ghost use Rattle.standard.specs.Choose.{if};

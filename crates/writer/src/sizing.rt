@@ -291,7 +291,7 @@ fn close(marks: &mut [u8], c: Extent, kind: Kind, head: usize, body: usize, e: E
 }
 
 // The children of a row of that kind at `c`, where so many levels are left for the row. Where none is left for them the first is refused at once.
-// Inlined, and `size_items` not, so that each level takes one frame.
+// `levels` is a plain number: it is counted down to 0, and 0 is asked for. Inlined, and `size_items` not, so that each level takes one frame.
 #[cycle(size_children_size_items_size_values)]
 #[inline(always)]
 fn size_children(
