@@ -37,9 +37,10 @@ pub record Levels : Type 0 where
 handed_same : (w v x y : Walker) (r s : Next) → NextOf w r x → NextOf v s y → v.bytes ≡ w.bytes → v.at ≡ w.at → step_of v ≡ step_of w → (s ≡ r) × (y.at ≡ x.at)
 handed_same w v x y r s h k e f q =
     let a : next_is w.at s ≡ (step_of w).answer = ap (λ (i : ℕ). next_is i s) (sym f) ∙ k.answer ∙ ap (λ (t : outcome.Stepping). t.answer) q in
-    let b : Handed w.bytes (step_of w).answer s = subst (λ (p : Bor (List ℕ)). Handed p (step_of w).answer s) e (subst (λ (t : outcome.Stepping). Handed v.bytes t.answer s) q k.value) in
-    (sym (one_handed w.bytes w.at (step_of w).answer r s h.answer a h.value b),
-     ap (λ (z : Walker). z.at) k.moved ∙ ap (λ (t : outcome.Stepping). t.at) q ∙ sym (ap (λ (z : Walker). z.at) h.moved))
+    let b : Handed w.bytes (step_of w).answer s = subst (λ (p : Bor (List ℕ)). Handed p (step_of w).answer s) e (subst (λ (t : outcome.Stepping). Handed v.bytes t.answer s) q k.value) in (
+      sym (one_handed w.bytes w.at (step_of w).answer r s h.answer a h.value b),
+      ap (λ (z : Walker). z.at) k.moved ∙ ap (λ (t : outcome.Stepping). t.at) q ∙ sym (ap (λ (z : Walker). z.at) h.moved),
+    )
 
 pub levels : Levels
 levels = record {
