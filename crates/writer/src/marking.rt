@@ -17,11 +17,8 @@ ghost use Rattle.writer.specs.Marking.{emptied, pushed, Popped, opened, boxes, b
 use crate::head::Mode;
 use crate::row::Row;
 use crate::{head, put, row};
-use standard::kind;
 use standard::kind::Kind;
-
-// As many compounds are open at most as a table has levels.
-const LEVELS: usize = 32;
+use standard::{kind, limit};
 
 // A list, a map or an array that has begun: the bytes before it, the place of its mark, and how many rows are due behind it and what they
 // are. Every number is below 2^22, so 32 bits are enough for it and the stack stays small.
@@ -33,10 +30,10 @@ pub struct Begun {
     pub mode: Mode,
 }
 
-// Those that have not ended, the innermost last. There is no heap: the room is fixed, and how many there are stands beside it.
+// Those that have not ended, the innermost last. The room is fixed; `top` says how many there are.
 #[derive(Drop)]
 pub struct Stack {
-    pub begun: [Begun; LEVELS],
+    pub begun: [Begun; limit::MOST],
     pub top: usize,
 }
 
@@ -51,7 +48,7 @@ impl Stack {
             mode: Mode::Values,
         };
         Self {
-            begun: [none; LEVELS],
+            begun: [none; limit::MOST],
             top: 0,
         }
     }
