@@ -233,6 +233,18 @@ strange (mapped t) h = absurd (false≢true (sym h))
 strange (arrayed t) h = absurd (false≢true (sym h))
 strange describing h = absurd (false≢true (sym h))
 
+-- it is foreign
+pub stranger : (s : Style) → is_kind s ≡ false → foreign ≡ s
+unfolding is_kind
+stranger foreign h = refl
+stranger (numbered t w) h = absurd (false≢true (sym h))
+stranger (blob w) h = absurd (false≢true (sym h))
+stranger (lettered t) h = absurd (false≢true (sym h))
+stranger (listed e t) h = absurd (false≢true (sym h))
+stranger (mapped t) h = absurd (false≢true (sym h))
+stranger (arrayed t) h = absurd (false≢true (sym h))
+stranger describing h = absurd (false≢true (sym h))
+
 -- and every number of it is fair
 pub unheld : (k n : ℕ) → is_kind (style_of k) ≡ false → true ≡ fair k n
 unfolding style_of kinds lookup is_kind fair

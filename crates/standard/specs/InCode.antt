@@ -104,3 +104,8 @@ style_is (Listed e s) = Kinds.listed e s
 style_is (Mapped s) = Kinds.mapped s
 style_is (Arrayed s) = Kinds.arrayed s
 style_is Describing = Kinds.describing
+
+-- the style of a number that may be none of the 25 kinds
+abbrev pub style_in : Option Style → Kinds.Style
+style_in (Some s) = style_is s
+style_in None = Kinds.foreign

@@ -3,11 +3,9 @@ ghost use Rattle.std.specs.Prelude.{◌≡◌, ◌-◌, ◌^◌, ◌≤◌, ltb}
 ghost use Rattle.standard.specs.Kinds.{style_of, member, nameable, fair, count_in, kind_in};
 ghost use Rattle.standard.specs.Encode.{fits_byte};
 ghost use Rattle.standard.specs.Table.{ranged, letters, children};
-ghost use Rattle.standard.specs.InCode.{kind_is, style_is, Names};
+ghost use Rattle.standard.specs.InCode.{kind_is, style_is, style_in, Names};
 
 use crate::format_code;
-use std::error::Error;
-use std::fmt;
 
 /// A kind of row. Its number stands in the row, and is the format code of its wide form.
 #[derive(Clone, Copy, Debug, PartialEq, Eq)]
@@ -42,14 +40,6 @@ pub enum Kind {
 /// A number that is none of the 25 kinds.
 #[derive(Clone, Copy, Debug, PartialEq, Eq)]
 pub struct UnknownKind;
-
-impl fmt::Display for UnknownKind {
-    fn fmt<W: fmt::Write>(&self, f: &mut fmt::Formatter<W>) -> fmt::Result {
-        f.write_str("no kind has that number")
-    }
-}
-
-impl Error for UnknownKind {}
 
 impl TryFrom<u64> for Kind {
     type Error = UnknownKind;
@@ -102,7 +92,7 @@ impl From<Kind> for u64 {
 // The shorter forms of a number, by their format codes.
 #[derive(Clone, Copy)]
 pub enum Short {
-    // There is none. A form like the others: whoever writes a number goes over all four.
+    // There is none: a case of the definition too, to which `Kind::style` is an equation.
     Never,
     // For 1, and for 0.
     Flag(u8, u8),
@@ -112,7 +102,7 @@ pub enum Short {
     Signed(u8),
 }
 
-// What a row holds. The format code of the wide form is the kind itself; the codes of shorter forms are named here.
+// What a row holds. The format code of the wide form is the kind itself; the codes of shorter forms are named here, as in the definition.
 #[derive(Clone, Copy)]
 pub enum Style {
     // A number of that many bytes.
@@ -190,13 +180,24 @@ impl Kind {
     {
         match self {
             Kind::Boolean => number <= 1,
-            Kind::Char => number <= 0xd7ff || 0xe000 <= number && number <= 0x10ffff,
+            Kind::Char => matches!(number, 0..=0xd7ff | 0xe000..=0x10ffff),
             _ => true,
         }
     }
 }
 
-// The same of a kind by its number: where it is none of the 25 every number is fair.
+// What a row of that kind holds, by the kind's number, whatever that is: none where it is none of the 25.
+#[tactic(auto, using(crate::specs::Facts::stranger))]
+pub fn style_of(kind: u64) -> Option<Style>
+    ensures { style_in result ≡ style_of kind }
+{
+    match Kind::try_from(kind) {
+        Ok(kind) => Some(kind.style()),
+        Err(UnknownKind) => None,
+    }
+}
+
+// Whether a number is fair, by the kind's number, whatever that is: where it is none of the 25 every number is.
 #[tactic(auto, using(crate::specs::Facts::unheld))]
 pub fn is_fair(kind: u64, number: u64) -> bool
     ensures { result ≡ fair kind number }
@@ -207,7 +208,7 @@ pub fn is_fair(kind: u64, number: u64) -> bool
     }
 }
 
-// Does a number fit so many bytes.
+// Does a number fit so many bytes. A table: by a shift it would ask for a width below 8 first, and the powers would not be seen.
 #[tactic(auto, using(crate::proofs::Widths::wide_enough))]
 pub fn fits_width(number: u64, width: usize) -> bool
     ensures { result ≡ ltb number (256 ^ width) }
@@ -268,6 +269,7 @@ pub fn kind_of_elements(number: u64) -> Result<Kind, UnknownKind>
 }
 
 // May the number of an array's row name that kind, as far as arrays can hold it: 0 names none, and what is no kind is refused for that.
+// By the kind's number, whatever that is.
 #[tactic(auto, unfolding(crate::specs::Kinds::nameable), using(crate::specs::Facts::known))]
 pub fn is_nameable(kind: u64) -> bool
     ensures { result ≡ nameable kind }
@@ -316,7 +318,7 @@ impl Style {
         }
     }
 
-    // Is a number in the table's range for its kind, which is of this style.
+    // Is a number in the table's range for its kind, which is of this style. By the kind's number, whatever that is.
     #[tactic(auto, unfolding(crate::specs::Table::ranged, crate::specs::Kinds::count_in, crate::specs::Kinds::kind_in, crate::specs::InCode::style_is), using(crate::specs::Facts::strange))]
     pub fn takes(self, kind: u64, number: u64) -> bool
         ensures { result ≡ ranged (style_is self) kind number }

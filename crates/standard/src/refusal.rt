@@ -2,9 +2,6 @@
 ghost use Rattle.std.specs.Prelude.{◌≡◌};
 ghost use Rattle.standard.specs.InCode.{reason_is};
 
-use std::error::Error;
-use std::fmt;
-
 /// Why something was refused.
 #[derive(Clone, Copy, Debug, PartialEq, Eq)]
 pub enum Reason {
@@ -44,11 +41,3 @@ pub struct Refusal {
     pub reason: Reason,
     pub place: usize,
 }
-
-impl fmt::Display for Refusal {
-    fn fmt<W: fmt::Write>(&self, f: &mut fmt::Formatter<W>) -> fmt::Result {
-        write!(f, "refusal {} at {}", self.reason.number(), self.place)
-    }
-}
-
-impl Error for Refusal {}
