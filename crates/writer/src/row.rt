@@ -26,11 +26,8 @@ impl<'a> Table<'a> {
         requires { 2 * row ≤ length self.now.words.now }
         ensures { Front (drop (2 * row) self.now.words.now) result }
     {
-        let k = 2 * row;
-        if self.words.len() - k < 2 {
-            return None;
-        }
-        Some((self.words[k], self.words[k + 1]))
+        let [kind, number] = self.words[2 * row..].first_chunk::<2>()?;
+        Some((*kind, *number))
     }
 }
 
