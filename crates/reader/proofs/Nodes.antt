@@ -8,7 +8,7 @@ use native.Mathlib.Omega.{arith}
 use native.Mathlib.Nat.{zero-add, sub-zero}
 use native.Mathlib.Numerals.{add-one}
 use borrow.Author.Tests.{eq-eqb, ne_eqb}
-use lib.ListN.{length, drop, get_or}
+use lib.ListN.{length, drop}
 use Rattle.standard.specs.Answer.{Answer, got, refuse, Place, at, byte, ◌>>=◌, ◌>>◌, need, too_deep, element_unfit, input_short, code_unknown, size_amiss}
 use Rattle.standard.specs.Tree.{Tree, node, Trees, tall, tall*, text, text*}
 use Rattle.standard.specs.Codes as codes
@@ -138,12 +138,11 @@ inside_empty l w q zero [] h e = refl
 inside_empty l w q zero (c ∷ b) h e = absurd (omega arith)
 inside_empty l w q (suc n) b h e = absurd (omega arith)
 
-pub inside_some : (l q n : ℕ) (b : List ℕ) → (0 < n → 0 < l) → (length b ≡ 0 → ⊥) → inside (below l) l q n b ≡ items (below l) q n (get_or b 0 0) (drop 1 b)
+pub inside_some : (l q n c : ℕ) (b r : List ℕ) → (0 < n → 0 < l) → b ≡ c ∷ r → inside (below l) l q n b ≡ items (below l) q n c r
 unfolding inside
-inside_some l q n [] h e = absurd (e refl)
-inside_some l q zero (c ∷ b) h e = refl
-inside_some zero q (suc n) (c ∷ b) h e = absurd (omega (arith, h (omega arith)))
-inside_some (suc l) q (suc n) (c ∷ b) h e = refl
+inside_some l q zero c b r h e = rw e
+inside_some zero q (suc n) c b r h e = absurd (omega (arith, h (omega arith)))
+inside_some (suc l) q (suc n) c b r h e = rw e
 
 -- what an element code is refused for
 pub items_no : (l w q n e x : ℕ) (p : Place) (r : List ℕ) → element_of q (layout_of e) ≡ refuse x p → refuse x p ≡ contents w (items (below l) q n e r)

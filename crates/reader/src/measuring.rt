@@ -480,26 +480,21 @@ fn inside(
     requires { (place + length body.now < 2 ^ 63) × (count < 2 ^ 32) }
     ensures { counted_is result ≡ contents whole (read.inside (below levels) levels place count body.now) }
 {
-    if 0 < count {
-        if levels == 0 {
-            return Err(refused(Reason::TooDeep, place));
-        }
-        if body.len() == 0 {
+    if 0 < count && levels == 0 {
+        return Err(refused(Reason::TooDeep, place));
+    }
+    let Some((code, rest)) = body.split_first() else {
+        if 0 < count {
             return Err(refused(Reason::InputShort, place));
         }
-    }
-    if body.len() == 0 {
         return Ok(Extent {
             length: whole,
             rows: 1,
             text: 0,
         });
-    }
-    let room = Room {
-        bytes: &body[1..],
-        place,
     };
-    items(room, body[0], count, whole, levels)
+    let room = Room { bytes: rest, place };
+    items(room, *code, count, whole, levels)
 }
 
 // So many payloads of one code.

@@ -19,7 +19,7 @@ use Rattle.reader.proofs.Rooms.{rest, part_length}
 use Rattle.reader.proofs.Several.{run_roomy, begin, end, stops, ends, again, plainly, begun}
 use Rattle.reader.proofs.Nodes.{behind_of, compound_of, unknown_is, scalar_is, described_is, Framed, framed, unframed, compound_odd, compound_is, array_is, inside_deep, inside_none, inside_empty, inside_some, items_no, fit_of, items_is}
 use Rattle.reader.proofs.measuring.+array_behind_compound_inside_items_many_payload.Goals as goal
-use Rattle.reader.proofs.measuring.+array_behind_compound_inside_items_many_payload.Goals.{inside-then-count-gt0+else-levels-eq0+else-body-eq0, inside-else-count-gt0, many-then-is_plain+then-end-s, many-else-is_plain+in_ok-value}
+use Rattle.reader.proofs.measuring.+array_behind_compound_inside_items_many_payload.Goals.{inside-else-count-gt0-via-then-count-gt0+else-levels-eq0, inside-else-count-gt0-via-else-count-gt0, many-then-is_plain+then-end-s, many-else-is_plain+in_ok-value}
 
 -- what a `?` passes on
 passed : (r : Result Extent Stop) (s : Stop) → IsErrAnd r (λ d. d ≡ s) → counted_is r ≡ stop_is s
@@ -128,26 +128,26 @@ compound-returns t c =
 pub inside-returns-then-levels-eq0 : goal.inside-returns-then-levels-eq0
 inside-returns-then-levels-eq0 t c = let a = c.args in rw c.refused.ensures (inside_deep a.levels a.whole a.place a.count a.body.now c.if-count-gt0.true c.if-levels-eq0.true)
 
-pub inside-returns-then-body-eq0 : goal.inside-returns-then-body-eq0
-inside-returns-then-body-eq0 t c =
-    let a = c.args in rw c.refused-then-body-eq0.ensures (inside_none a.levels a.whole a.place a.count a.body.now c.if-count-gt0.true c.if-levels-eq0.false c.if-body-eq0.true)
-
-pub inside-returns-then-body-eq0-2 : goal.inside-returns-then-body-eq0-2
-inside-returns-then-body-eq0-2 t c =
+pub inside-returns-then-count-gt0-2 : goal.inside-returns-then-count-gt0-2
+inside-returns-then-count-gt0-2 t c =
     let a = c.args in
-    elim c.if-count-gt0.branch [
-      | inside-then-count-gt0+else-levels-eq0+else-body-eq0 w ↦ absurd (w.if-body-eq0.false c.if-body-eq0-2.true)
-      | inside-else-count-gt0 w ↦ inside_empty a.levels a.whole a.place a.count a.body.now w.if-count-gt0.false c.if-body-eq0-2.true
-    ]
+    let f : a.levels ≡ 0 → ⊥ = elim c.else-count-gt0.branch [
+      | inside-else-count-gt0-via-then-count-gt0+else-levels-eq0 w ↦ w.if-levels-eq0.false
+      | inside-else-count-gt0-via-else-count-gt0 w ↦ absurd (omega (arith, w.if-count-gt0.false, c.if-count-gt0-2.true))
+    ] in
+    rw c.refused-then-count-gt0-2.ensures (inside_none a.levels a.whole a.place a.count a.body.now c.if-count-gt0-2.true f c.in_default.ensures.cases)
+
+pub inside-returns-in_default : goal.inside-returns-in_default
+inside-returns-in_default t c = let a = c.args in inside_empty a.levels a.whole a.place a.count a.body.now (omega (arith, c.if-count-gt0-2.false)) c.in_default.ensures.cases
 
 pub inside-returns : goal.inside-returns
 inside-returns t c =
     let a = c.args in
-    let f : 0 < a.count → 0 < a.levels = elim c.if-count-gt0.branch [
-      | inside-then-count-gt0+else-levels-eq0+else-body-eq0 w ↦ λ i. omega (arith, w.if-levels-eq0.false)
-      | inside-else-count-gt0 w ↦ λ i. absurd (omega (arith, w.if-count-gt0.false))
+    let f : 0 < a.count → 0 < a.levels = elim c.else-count-gt0.branch [
+      | inside-else-count-gt0-via-then-count-gt0+else-levels-eq0 w ↦ λ i. omega (arith, w.if-levels-eq0.false)
+      | inside-else-count-gt0-via-else-count-gt0 w ↦ λ i. absurd (omega (arith, w.if-count-gt0.false))
     ] in
-    rw rest at c.items.ensures ∙ sym (ap (contents a.whole) (inside_some a.levels a.place a.count a.body.now f c.if-body-eq0-2.false))
+    c.items.ensures ∙ sym (ap (contents a.whole) (inside_some a.levels a.place a.count c.in-Some.code.now a.body.now c.in-Some.rest.now f c.in-Some.ensures.cases.0))
 
 pub items-returns-in_err-element_of : goal.items-returns-in_err-element_of
 items-returns-in_err-element_of t c =
