@@ -1,4 +1,5 @@
 // The entry points of the writer and of the reader, each in either form: with a level limit named, or with none.
+// Each function is a choice between two entry points of its own: one function for all would be told both, at every call.
 use reader::{Extent, walker};
 use standard::refusal::Refusal;
 use std::ops::Range;

@@ -5,7 +5,7 @@ ghost use Rattle.vectors.specs.Form.{digit_of, Ahead};
 
 use crate::due::{Due, Numbered};
 
-// The value of a digit.
+// The value of a digit. The library's `to_digit` takes `A` to `F` too.
 fn digit(byte: u8) -> Option<u8>
     ensures { result ≡ digit_of byte }
 {
@@ -110,7 +110,7 @@ impl<'a> Fields<'a> {
         Some(value)
     }
 
-    // A number in base 10 or 16.
+    // A number in base 10 or 16. The library reads one from a whole text, with a `+` before it too; here its end is found as it is read.
     fn number(&mut self, base: u8) -> Option<u64>
         ensures { Ahead result self.old.rest.now self.new.rest.now }
     {

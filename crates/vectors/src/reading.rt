@@ -25,6 +25,7 @@ impl Lent<'_> {
         fill_bytes(self.text);
     }
 
+    // Field by field: `&mut` of a slice has no equality from which this could be derived.
     fn holds_the_same(&self, other: &Lent<'_>) -> bool {
         &*self.words == &*other.words && &*self.text == &*other.text
     }
