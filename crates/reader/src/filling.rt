@@ -41,17 +41,15 @@ pub struct Cursor<'a> {
 
 // A byte, two's complement, in four or eight bytes.
 #[tactic(auto, unfolding(standard::specs::Grammar::extend, standard::specs::Grammar::negative))]
-fn extended(byte: u64, width: usize) -> u64
-    requires { (byte < 256) × ((width ≡ 4 → ⊥) → width ≡ 8) }
+fn extended(byte: u8, width: usize) -> u64
+    requires { (width ≡ 4 → ⊥) → width ≡ 8 }
     ensures { result ≡ extend width byte }
 {
-    if byte < 128 {
-        return byte;
-    }
+    let number = byte.cast_signed();
     if width == 4 {
-        return 0xffff_ff00 + byte;
+        return u64::from(i32::from(number).cast_unsigned());
     }
-    0xffff_ffff_ffff_ff00 + byte
+    i64::from(number).cast_unsigned()
 }
 
 // A row with no children.
@@ -161,12 +159,7 @@ fn small_row(here: Cursor, kind: Kind, width: usize) -> Row
     requires { T (eqb width 4 || eqb width 8) × Lands (behind_step (kind_is kind) (drop here.at here.bytes.now) (scalar (small width))) }
     ensures { RowFound here.entry.bytes.now (behind_step (kind_is kind) (drop here.entry.at here.entry.bytes.now) (scalar (small width))) result }
 {
-    leaf(
-        kind,
-        extended(u64::from(here.bytes[here.at]), width),
-        here.at + 1,
-        0,
-    )
+    leaf(kind, extended(here.bytes[here.at], width), here.at + 1, 0)
 }
 
 // The row of a text, behind its code.
