@@ -14,7 +14,7 @@ pub struct Run {
     pub code: Option<u8>,
 }
 
-// The runs below the one on top, the last of them next.
+// The runs below the one on top, the last of them next. The room is fixed: an array, and `kept` says how many of it there are.
 #[derive(Clone, Copy)]
 pub struct Below {
     runs: [Run; limit::MOST],

@@ -192,8 +192,8 @@ fn is_paired(kind: Kind, count: usize) -> bool
     }
 }
 
-// The entry of a code. The call answers through memory, which is not kept beyond this function: so a level takes 32 bytes less of the
-// stack, as it does not with `?` in here.
+// The entry of a code. The call answers through memory, which is free again behind this function: so a level takes 32 bytes less of
+// the stack. With `?` in place of the match it does not.
 #[inline(always)]
 fn entry_of(code: u8) -> Option<Entry>
     ensures { entry_is code result ≡ entry_of code }
@@ -522,6 +522,7 @@ pub fn measure_within(limit: usize, bytes: &[u8]) -> Result<Extent, Refusal>
 }
 
 /// Measures the value at the front of the bytes, within 16 levels.
+// The form that names no limit: docs/PROMISES.md and C have both.
 pub fn measure(bytes: &[u8]) -> Result<Extent, Refusal>
     ensures { measured_is result ≡ outcome.measure level_default bytes.now }
 {

@@ -11,8 +11,8 @@ fn part<const N: usize>(bytes: &[u8], at: usize) -> [u8; N]
     bytes[at..at + N].try_into().unwrap()
 }
 
-// A number of one byte or of four, as every length, size and count is. The width is a number and no type of two cases: whoever asks
-// goes on by it.
+// A number of one byte or of four, as every length, size and count is. The width is a number and no type of two cases: whoever calls
+// adds it to a place.
 pub(crate) fn narrow_at(bytes: &[u8], at: usize, width: usize) -> u64
     requires { T (narrow width) × (at + width ≤ length bytes.now) }
     ensures { (result ≡ unbe (take width (drop at bytes.now))) × (result < 2 ^ 32) }

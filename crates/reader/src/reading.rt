@@ -49,6 +49,7 @@ pub fn read_within(
 }
 
 /// The same within 16 levels.
+// The form that names no limit: docs/PROMISES.md and C have both.
 pub fn read(bytes: &[u8], words: &mut [u64], text: &mut [u8]) -> Result<Extent, Refusal>
     ensures { (measured_is result ≡ (outcome.read level_default bytes.now words.old text.old).answer)
         × (words.new ≡ (outcome.read level_default bytes.now words.old text.old).words)

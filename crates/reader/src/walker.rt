@@ -31,14 +31,15 @@ pub fn step_within(limit: usize, bytes: &[u8], at: usize) -> Result<Option<Range
     Ok(Some(at..at + extent.length))
 }
 
-// A step at a place of the bytes, within 16 levels.
+// A step at a place of the bytes, within 16 levels. The form that names no limit: docs/PROMISES.md and C have both.
 pub fn step_at(bytes: &[u8], at: usize) -> Result<Option<Range<usize>>, Refusal>
     ensures { stepped_is at result ≡ outcome.step level_default bytes.now at }
 {
     step_within(limit::DEFAULT, bytes, at)
 }
 
-// Goes through values that stand end to end: it keeps the caller's bytes, its place in them, and the level limit of each step.
+// Goes through values that stand end to end: it keeps the caller's bytes, its place in them, and the level limit of each step. A copy
+// of it goes on by itself: lend it with `by_ref` or `&mut` to a loop, where it is to go on behind that.
 #[derive(Clone, Copy)]
 pub struct Walker<'a> {
     bytes: &'a [u8],
@@ -58,7 +59,7 @@ impl<'a> Walker<'a> {
         }
     }
 
-    // Within 16 levels.
+    // Within 16 levels. The form that names no limit: docs/PROMISES.md has both.
     pub fn new(bytes: &'a [u8]) -> Walker<'a>
         ensures { result ≡ record { bytes = bytes.entry; at = 0; limit = level_default } }
     {
