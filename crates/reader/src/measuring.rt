@@ -412,7 +412,7 @@ fn payload(room: Room, code: u8, levels: usize) -> Result<Extent, Stop>
     ensures { counted_is result ≡ measured (length room.entry.bytes.now) (read.payload levels code room.entry.place room.entry.bytes.now) }
 {
     if let Some(found) = compound_of(code) {
-        return compound(room, found.width, found.kind, levels - 1);
+        return compound(room, found, levels - 1);
     }
     behind(room, code, levels)
 }
@@ -440,15 +440,15 @@ fn behind(room: Room, code: u8, levels: usize) -> Result<Extent, Stop>
 
 // A list or a map, behind its code.
 #[cycle(array_behind_compound_inside_items_many_payload)]
-fn compound(room: Room, width: usize, kind: Kind, levels: usize) -> Result<Extent, Stop>
-    requires { T (narrow width) }
-    ensures { counted_is result ≡ measured (length room.entry.bytes.now) (read.behind (below levels) levels (kind_is kind) room.entry.place room.entry.bytes.now (codes.compound width)) }
+fn compound(room: Room, found: CompoundCode, levels: usize) -> Result<Extent, Stop>
+    requires { T (narrow found.width) }
+    ensures { counted_is result ≡ measured (length room.entry.bytes.now) (read.behind (below levels) levels (kind_is found.kind) room.entry.place room.entry.bytes.now (codes.compound found.width)) }
 {
-    let body = fields(room, width)?;
-    if !is_paired(kind, body.count) {
+    let body = fields(room, found.width)?;
+    if !is_paired(found.kind, body.count) {
         return Err(refused(Reason::SizeAmiss, room.place));
     }
-    let from = width + width;
+    let from = found.width + found.width;
     let children = &room.bytes[from..body.end];
     let values = many(children, None, body.count, room.place + 1 + from, levels)?;
     done(values, body.end - from, body.end, room.place)

@@ -101,29 +101,29 @@ behind-returns-in-Array t c =
     let a = c.args in c.array.ensures _ ∙ sym (behind_of a.levels a.code a.room.place a.room.bytes.now _ _ c.requires.0 c.in-Some.ensures c.in-Array.is)
 
 pub compound-returns-in_err-body : goal.compound-returns-in_err-body
-compound-returns-in_err-body t c = let a = c.args in passed _ _ c.from_residual.ensures.1 ∙ (unframed a.levels a.width (kind_is a.kind) a.room.place _ _ a.room.bytes.now c.in_err-body.ensures.0).0
+compound-returns-in_err-body t c = let a = c.args in passed _ _ c.from_residual.ensures.1 ∙ (unframed a.levels a.found.width (kind_is a.found.kind) a.room.place _ _ a.room.bytes.now c.in_err-body.ensures.0).0
 
 pub compound-returns-then-not-is_paired : goal.compound-returns-then-not-is_paired
 compound-returns-then-not-is_paired t c =
     let a = c.args in
-    rw c.refused.ensures (compound_odd a.levels a.width (kind_is a.kind) a.room.place _ _ a.room.bytes.now (framed _ _ _ c.in_ok-body.body c.in_ok-body.ensures.0 c.in_ok-body.ensures.1) (sym c.is_paired.ensures ∙ c.if-not-is_paired.true))
+    rw c.refused.ensures (compound_odd a.levels a.found.width (kind_is a.found.kind) a.room.place _ _ a.room.bytes.now (framed _ _ _ c.in_ok-body.body c.in_ok-body.ensures.0 c.in_ok-body.ensures.1) (sym c.is_paired.ensures ∙ c.if-not-is_paired.true))
 
 pub compound-returns-in_err-values : goal.compound-returns-in_err-values
 compound-returns-in_err-values t c =
     let a = c.args in
-    passed _ _ c.from_residual-in_err-values.ensures.1 ∙ compound_is a.levels a.width (kind_is a.kind) a.room.place _ _ a.room.bytes.now (framed _ _ _ c.in_ok-body.body c.in_ok-body.ensures.0 c.in_ok-body.ensures.1) _ (sym c.is_paired.ensures ∙ c.if-not-is_paired.false) c.in_err-values.ensures
+    passed _ _ c.from_residual-in_err-values.ensures.1 ∙ compound_is a.levels a.found.width (kind_is a.found.kind) a.room.place _ _ a.room.bytes.now (framed _ _ _ c.in_ok-body.body c.in_ok-body.ensures.0 c.in_ok-body.ensures.1) _ (sym c.is_paired.ensures ∙ c.if-not-is_paired.false) c.in_err-values.ensures
 
 pub compound-done-requires : goal.compound-done-requires
 compound-done-requires t c =
     let a = c.args in
     let b = c.in_ok-body.body in
-    let g : Framed a.width a.room.place a.room.bytes.now b.count b.end = framed _ _ _ b c.in_ok-body.ensures.0 c.in_ok-body.ensures.1 in
-    run_roomy None a.levels b.count (a.room.place + 1 + (a.width + a.width)) (body_in a.width b.end a.room.bytes.now) _ c.in_ok-values.ensures g.few (omega (arith, g.size, g.ends))
+    let g : Framed a.found.width a.room.place a.room.bytes.now b.count b.end = framed _ _ _ b c.in_ok-body.ensures.0 c.in_ok-body.ensures.1 in
+    run_roomy None a.levels b.count (a.room.place + 1 + (a.found.width + a.found.width)) (body_in a.found.width b.end a.room.bytes.now) _ c.in_ok-values.ensures g.few (omega (arith, g.size, g.ends))
 
 pub compound-returns : goal.compound-returns
 compound-returns t c =
     let a = c.args in
-    c.done.ensures ∙ compound_is a.levels a.width (kind_is a.kind) a.room.place _ _ a.room.bytes.now (framed _ _ _ c.in_ok-body.body c.in_ok-body.ensures.0 c.in_ok-body.ensures.1) _ (sym c.is_paired.ensures ∙ c.if-not-is_paired.false) c.in_ok-values.ensures
+    c.done.ensures ∙ compound_is a.levels a.found.width (kind_is a.found.kind) a.room.place _ _ a.room.bytes.now (framed _ _ _ c.in_ok-body.body c.in_ok-body.ensures.0 c.in_ok-body.ensures.1) _ (sym c.is_paired.ensures ∙ c.if-not-is_paired.false) c.in_ok-values.ensures
 
 pub inside-returns-then-levels-eq0 : goal.inside-returns-then-levels-eq0
 inside-returns-then-levels-eq0 t c = let a = c.args in rw c.refused.ensures (inside_deep a.levels a.whole a.place a.count a.body.now c.if-count-gt0.true c.if-levels-eq0.true)
