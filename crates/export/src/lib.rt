@@ -3,7 +3,7 @@
 // Each function returns 0, or the number of the refusal. All else that it answers is stored behind the pointers: on success the
 // place is 0, on a refusal each length and each count is 0. A slice is a pointer and a length.
 //
-// Each comes in two forms, by which C calls it: `afsungar_NAME_within` takes the level limit as its first parameter, and `afsungar_NAME` is the same at 16.
+// C calls each in two forms: `afsungar_NAME_within` takes the level limit as its first parameter, and `afsungar_NAME` is the same at 16.
 #![tactic(auto)]
 
 ghost use Rattle.std.specs.Prelude.{◌≡◌};

@@ -1,19 +1,18 @@
 -- From reading to the listing: where the memory has room for it, what is read is what is listed, and the page has room for the listing.
 use Prim.Native.Nat.{ℕ, ◌*◌, ◌-◌, ◌/◌, ◌≤◌, ◌<◌}
-use mathlib.Core.Path.{◌≡◌, refl, sym, ap, ◌∙◌}
+use mathlib.Core.Path.{◌≡◌, refl, ap, ◌∙◌}
 use mathlib.Core.List.{List, [], ◌∷◌, ◌++◌, append_assoc}
 use native.Mathlib.Omega.{arith}
 use borrow.Author.Tests.{le-leb, lt-leb}
 use lib.Dec.{leb, leb→le}
 use lib.ListN.{length, take, drop, length-append}
-use lib.Seq.{sets, take_at}
+use lib.Seq.{take_at}
 use Rattle.standard.specs.Answer.{Answer, got, refuse, Place, at, offset}
 use Rattle.standard.specs.Tree.{Tree, tall, rows, text}
 use Rattle.standard.specs.Outcomes.{over, Extent, extent, arrived, read_into, read}
 use Rattle.standard.specs.Listing.{newline, large_words, lines, shown, input_most, listing}
 use Rattle.standard.specs.Facts.{if_case}
 use Rattle.laws.specs.Unique.{arrived_reads}
-use Rattle.laws.specs.Stores.{front_over}
 use Rattle.laws.specs.Bounds.{rows_length, small}
 use Rattle.listing.specs.Lines.{end_line, refused_line, Narrow, line_most, output_most}
 use Rattle.listing.proofs.Decimals.{decimal_short}
@@ -100,10 +99,3 @@ module _ (l : ℕ) (b : List ℕ) {w x : List ℕ} (few : length b ≤ input_mos
 pub too_large : (l : ℕ) (b : List ℕ) → input_most < length b → listing l b ≡ large_words ++ (newline ∷ [])
 unfolding listing
 too_large l b h = rw (lt-leb (length b) input_most h)
-
--- its length, and an output with it at the front
-pub large_length : (l : ℕ) (b : List ℕ) → input_most < length b → length (listing l b) ≡ length (large_words ++ (newline ∷ []))
-large_length l b h = rw (too_large l b h)
-
-pub large_over : (l : ℕ) (b o : List ℕ) → input_most < length b → output_most ≤ length o → over (listing l b) o ≡ sets o 0 (large_words ++ (newline ∷ []))
-large_over l b o h k = rw (too_large l b h) (sym (front_over o (large_words ++ (newline ∷ [])) (omega arith)))
