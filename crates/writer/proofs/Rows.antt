@@ -86,6 +86,15 @@ pub no_array : (k : ℕ) → ¬ (k ≡ 0xf0) → is_arrayed (style_of k) ≡ fal
 unfolding kinds
 no_array k h = other is_arrayed refl k (tt, h)
 
+-- what a test of a row's kind tells
+pub array_yes : {k : ℕ} {b : Bool} → b ≡ eqb k 0xf0 → b ≡ true → k ≡ 0xf0
+array_yes {k = k} e f = eqb→eq k 0xf0 (subst T (sym f ∙ e) tt)
+
+pub array_no : {k : ℕ} {b : Bool} → b ≡ eqb k 0xf0 → b ≡ false → ¬ (k ≡ 0xf0)
+array_no {k = k} e f h =
+    let y : eqb k 0xf0 ≡ true = rw h refl in
+    absurd (subst T (sym y ∙ sym e ∙ f) tt)
+
 -- where the second of two tests fails, either of them is the first
 alone : (x y b : Bool) → (x || y) ≡ b → (b ≡ true → y ≡ false) → (x ≡ b) × (y ≡ false)
 alone true y true e f = (refl, f refl)

@@ -153,7 +153,7 @@ fn put_nested(table: Table, out: &mut [u8], body: usize, c: Cursor) -> Cursor
         × (body ≡ unbe (take (mark_at table.words.now c) (drop c.mark out.old))) × (body < 2 ^ 24) }
     ensures { Stepped elements table.entry.words.now table.entry.text.now out.old c out.new result }
 {
-    let count = table.words[2 * c.row + 1];
+    let count = row::number_on(table.words, c.row);
     put::put_fields(out, c.at, body as u64, count);
     c.behind(head::ITEM_WIDTH, 0, mark_width(count))
 }
@@ -190,7 +190,7 @@ fn put_array(table: Table, out: &mut [u8], mode: Mode, elements: usize, c: Curso
         × (elements ≡ unbe (take (mark_at table.words.now c) (drop c.mark out.old))) × (elements < 2 ^ 24) }
     ensures { Stepped mode table.entry.words.now table.entry.text.now out.old c out.new result }
 {
-    let number = table.words[2 * c.row + 1];
+    let number = row::number_on(table.words, c.row);
     let count = kind::count_of_elements(number);
     let code = head::wide_code(told_kind(number));
     let size = put_array_fields(out, c.at, mode, count, 1 + elements as u64);
@@ -206,7 +206,7 @@ fn fill_values(table: Table, out: &mut [u8], last: usize, start: Cursor) -> Curs
     let mut c = start;
     // no range: a cursor goes on by what each row takes
     while c.at < last {
-        if table.words[2 * c.row] == Kind::Array as u64 {
+        if row::is_array(table.words, c.row) {
             return c;
         }
         c = put_value(table, out, c);
@@ -254,7 +254,7 @@ fn fill_array(table: Table, out: &mut [u8], mode: Mode, c: Cursor) -> Cursor
     requires { (kind_at table.words.now c ≡ 0xf0) × ((k : ℕ) × (v : Tree) × One table.words.now table.text.now out.old mode c k v) }
     ensures { (k : ℕ) (v : Tree) → One table.entry.words.now table.entry.text.now out.old mode c k v → Done out.old mode c v out.new result }
 {
-    let number = table.words[2 * c.row + 1];
+    let number = row::number_on(table.words, c.row);
     let told = told_kind(number);
     let elements = body_at(out, c.mark, kind::count_of_elements(number));
     let first = put_array(table, out, mode, elements, c);
@@ -282,14 +282,14 @@ fn fill_rows(table: Table, out: &mut [u8], end: usize, first: usize, start: Curs
     // no range: a cursor goes on by what each row takes
     while c.at < end {
         let mode = mode_at(c, last);
-        if table.words[2 * c.row] == Kind::Array as u64 {
+        if row::is_array(table.words, c.row) {
             c = fill_array(table, out, mode, c);
             continue;
         }
         match mode {
             Mode::Values => c = fill_run(table, out, last, c),
             Mode::Elements => {
-                let body = body_at(out, c.mark, table.words[2 * c.row + 1]);
+                let body = body_at(out, c.mark, row::number_on(table.words, c.row));
                 c = put_nested(table, out, body, c);
                 last = c.at + body;
             }

@@ -1,7 +1,7 @@
 // A value table, and the checks of one of its rows (docs/FORMAT.md, 2 and 5.2).
 //
 // That a row begins in the table is asked of each function that looks at one: a table has no place in it.
-ghost use Rattle.std.specs.Prelude.{◌≡◌, true, ◌+◌, ◌*◌, ◌≤◌, length, drop, get_or};
+ghost use Rattle.std.specs.Prelude.{◌≡◌, true, ◌+◌, ◌*◌, ◌≤◌, eqb, length, drop, get_or};
 ghost use Rattle.standard.specs.Answer.{element_unfit, number_outside};
 ghost use Rattle.standard.specs.Choose.{if};
 ghost use Rattle.standard.specs.Kinds.{style_of, is_kind};
@@ -115,6 +115,33 @@ pub(crate) fn check_row(
     Ok(Row { kind, number })
 }
 
+// The first word of the row at `row`, its kind.
+#[inline(always)]
+fn word_on(words: &[u64], row: usize) -> u64
+    requires { 2 * row + 2 ≤ length words.now }
+    ensures { result ≡ get_or words.now (2 * row) 0 }
+{
+    words[2 * row]
+}
+
+// The second word of the row at `row`, its number.
+#[inline(always)]
+pub(crate) fn number_on(words: &[u64], row: usize) -> u64
+    requires { 2 * row + 2 ≤ length words.now }
+    ensures { result ≡ get_or words.now (2 * row + 1) 0 }
+{
+    words[2 * row + 1]
+}
+
+// Is the row at `row` an array.
+#[inline(always)]
+pub(crate) fn is_array(words: &[u64], row: usize) -> bool
+    requires { 2 * row + 2 ≤ length words.now }
+    ensures { result ≡ eqb (get_or words.now (2 * row) 0) 0xf0 }
+{
+    word_on(words, row) == u64::from(Kind::Array)
+}
+
 // The row at `row` of a table that sizing has accepted. In line, as `Kind::try_from` is.
 #[inline(always)]
 pub(crate) fn known_row(words: &[u64], row: usize) -> Row
@@ -122,7 +149,7 @@ pub(crate) fn known_row(words: &[u64], row: usize) -> Row
     ensures { (kind_is result.kind ≡ get_or words.now (2 * row) 0) × (result.number ≡ get_or words.now (2 * row + 1) 0) }
 {
     Row {
-        kind: Kind::try_from(words[2 * row]).unwrap(),
-        number: words[2 * row + 1],
+        kind: Kind::try_from(word_on(words, row)).unwrap(),
+        number: number_on(words, row),
     }
 }
