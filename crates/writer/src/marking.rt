@@ -105,9 +105,8 @@ impl Point {
         Self {
             row: self.row + 1,
             size: self.size + size,
-            mark: self.mark,
             left: self.left - 1 + children,
-            mode: self.mode,
+            ..self
         }
     }
 }
@@ -177,11 +176,10 @@ fn close(begun: Begun, out: &mut [u8], c: Point) -> Point
     let children = c.size - begun.size as usize;
     put::put_three(out, begun.mark as usize, children as u64);
     Point {
-        row: c.row,
         size: c.size + box_width(begun.mode, c.mode, children),
-        mark: c.mark,
         left: begun.left as usize,
         mode: begun.mode,
+        ..c
     }
 }
 

@@ -49,10 +49,7 @@ pub(crate) fn refuse(reason: Reason, place: usize) -> Refusal
 fn is_allowed(told: Option<Kind>, kind: Kind) -> bool
     ensures { result ≡ allowed (spot_is told) (kind_is kind) }
 {
-    match told {
-        None => true,
-        Some(told) => kind == told,
-    }
+    told.is_none_or(|told| kind == told)
 }
 
 // The refusal of a number that is not in range: an array that tells a kind which arrays cannot hold is refused for that.

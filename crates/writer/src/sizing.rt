@@ -181,9 +181,7 @@ fn take_row(table: &Table, row: usize, from: usize, levels: usize) -> Option<Tak
     if let Some(size) = number::plain_size(word, number) {
         return Some(Taken::Number { size });
     }
-    let Ok(kind) = Kind::try_from(word) else {
-        return None;
-    };
+    let kind = Kind::try_from(word).ok()?;
     take_kind(kind, number, table.text, from)
 }
 
