@@ -4,7 +4,7 @@ use mathlib.Core.Path.{◌≡◌, refl, sym}
 use mathlib.Core.List.{◌++◌, append_assoc}
 use native.Mathlib.Omega.{arith}
 use lib.ListN.{length, length-append}
-use Rattle.standard.specs.Tree.{Tree, node, Trees, none, more, count, rows, rows*, text, text*, tall*}
+use Rattle.standard.specs.Tree.{Tree, node, Trees, none, more, count, rows, rows*, text, text*}
 use Rattle.standard.specs.Kinds.{style_of}
 use Rattle.standard.specs.Table.{Spot, any, spot_in, All, Valid}
 use Rattle.standard.specs.Encode.{encode, encode*}
@@ -33,11 +33,6 @@ pub text_join : (us vs : Trees) → text* (join us vs) ≡ text* us ++ text* vs
 unfolding join text*
 text_join none vs = refl
 text_join (more v us) vs = rw (text_join us vs) (sym (append_assoc (text v) (text* us) (text* vs)))
-
-pub tall_join : (us vs : Trees) → tall* (join us vs) ≡ tall* us + tall* vs
-unfolding join tall*
-tall_join none vs = omega arith
-tall_join (more v us) vs = omega (arith, tall_join us vs)
 
 pub bytes_join : (us vs : Trees) → encode* (join us vs) ≡ encode* us ++ encode* vs
 unfolding join encode*

@@ -627,15 +627,6 @@ module _ {words text out₀ : List ℕ} {last : ℕ} {c₀ : Cursor} {out : List
     left = λ goal stop end g. (value_turn (n.left goal stop end g) h i).next a r t;
   }
 
-  -- it ends where no value is due, or at an array
-  pub ran_end : (c.at < last → kind_at words c ≡ 0xf0) → Run words text out₀ last c₀ out c
-  ran_end f = record {
-    onward = ⊎_elim (λ e. rw e (omega arith)) (λ e. omega arith) n.moved;
-    moved = λ h i. ⊎_elim (λ e. absurd (i (rw e (f (rw e at h))))) (λ e. e) n.moved;
-    ends = f;
-    left = n.left;
-  }
-
 -- scalars one after another: they have no marks, and no children
 pub plain_turn : {words text goal : List ℕ} {stop : Cursor} {end : ℕ} {out : List ℕ} {c : Cursor} → Going words text goal stop end false c.at out c → c.at < end
     → ElementTurn words text goal stop end false out c × ((a : List ℕ) (r : Cursor) → Stepped elements words text out c a r → Going words text goal stop end false r.at a r)

@@ -29,9 +29,6 @@ use Rattle.writer.proofs.Direct.{coded_long, flag_long}
 pub if_yes : (t b : Bool) (x y z : Option ℕ) → b ≡ t → b ≡ true → z ≡ x → z ≡ if t x y
 if_yes t b x y z e f g = rw (← e, f) g
 
-pub if_no : (t b : Bool) (x y z : Option ℕ) → b ≡ t → b ≡ false → z ≡ y → z ≡ if t x y
-if_no t b x y z e f g = rw (← e, f) g
-
 -- r is the bytes of a number in a short form, if it is in range
 abbrev pub Bytes : (width number : ℕ) → Short → (code : ℕ) → Option ℕ → Type 0
 Bytes w n s c r = r ≡ if (ltb n (256 ^ w)) (Some (length (shortest s w c n))) None

@@ -23,7 +23,7 @@ pub enum Mode {
     Elements,
 }
 
-// The format code of a kind's wide form.
+// The format code of a kind's wide form: a function, since a cast in the midst of another is a choice among 25 in its proof.
 pub(crate) fn wide_code(kind: Kind) -> u8
     ensures { result ≡ kind_is kind }
 {

@@ -70,7 +70,7 @@ pub fn size_within(limit: usize, words: &[u64], text: &[u8]) -> Result<usize, Re
     Ok(all.size)
 }
 
-// The length of what would be written, within 16 levels.
+// The length of what would be written, within 16 levels. The form that names no limit: docs/PROMISES.md and C have both.
 pub fn size(words: &[u64], text: &[u8]) -> Result<usize, Refusal>
     ensures { written_is result ≡ outcome.size level_default words.now text.now }
 {
@@ -139,7 +139,8 @@ pub fn write_within(
     Ok(e.size)
 }
 
-// Writes a table to the front of the output within 16 levels, or refuses and leaves the output as it is.
+// Writes a table to the front of the output within 16 levels, or refuses and leaves the output as it is. The form that names no limit:
+// docs/PROMISES.md and C have both.
 pub fn write(words: &[u64], text: &[u8], out: &mut [u8]) -> Result<usize, Refusal>
     ensures { (written_is result ≡ (outcome.write level_default words.now text.now out.old).answer)
         × (out.new ≡ (outcome.write level_default words.now text.now out.old).out) }

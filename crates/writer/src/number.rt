@@ -43,6 +43,7 @@ fn size_char(number: u64) -> Option<usize>
     size_never(number, 4)
 }
 
+// The same rule stands in head.rt: there the number is known to be in range, and is not asked for it (docs/DECISIONS.md, 28).
 #[tactic(auto, using(crate::proofs::Sizes::unsigned_zero, crate::proofs::Sizes::unsigned_byte, crate::proofs::Sizes::unsigned_wide))]
 fn size_unsigned(number: u64, width: usize) -> Option<usize>
     requires { (1 ≤ width) × (width ≤ 8) }

@@ -317,7 +317,7 @@ fn size_children(
     }
 }
 
-// The element at `c`, by the checks of every row. A call of its own, as `size_children` is: what it takes of the stack is free again behind it.
+// The element at `c`, by the checks of every row. A function of its own: what it takes of the stack is free again behind it.
 fn check_element(table: &Table, told: Kind, levels: usize, c: Extent) -> Result<Row, Refusal>
     requires { (2 * c.row ≤ length table.now.words.now) × (c.text ≤ length table.now.text.now) }
     ensures { checked_is result ≡ check levels (like (kind_is told)) c.row c.text (drop (2 * c.row) table.now.words.now) (drop c.text table.now.text.now) }
@@ -327,7 +327,7 @@ fn check_element(table: &Table, told: Kind, levels: usize, c: Extent) -> Result<
     return checked;
 }
 
-// The row at `c`, of which nothing was told. A call of its own too.
+// The row at `c`, of which nothing was told. A function of its own too.
 fn size_other(table: &Table, levels: usize, c: Extent) -> Result<Extent, Refusal>
     requires { Within table.now.words.now table.now.text.now c × Bare levels any (drop (2 * c.row) table.now.words.now) }
     ensures { answer_is result ≡ passed c (check levels any c.row c.text (drop (2 * c.row) table.now.words.now) (drop c.text table.now.text.now)) }
