@@ -278,6 +278,7 @@ pub(crate) fn fill(bytes: &[u8], words: &mut [u64], text: &mut [u8], rows: usize
     };
     let mut at: usize = 0;
     let mut letters: usize = 0;
+    // By the row's number: the library does not say what a slice ends as behind `as_chunks_mut` or `chunks_exact_mut`.
     for row in 0..rows {
         top = below.next_run(top);
         let r = row_at(Cursor { bytes, at }, top.code);
