@@ -66,10 +66,8 @@ pub(crate) fn put_lines(page: &mut Page, words: &[u64])
     requires { Narrow words.now × HasRoom page.old (lines 0 words.now) }
     ensures { page.new.items ≡ page.old.items ++ lines 0 words.now }
 {
-    for (row, pair) in words.chunks_exact(2).enumerate() {
-        if let [kind, number] = pair {
-            put_line(page, row as u64, *kind, *number);
-        }
+    for (row, [kind, number]) in words.as_chunks::<2>().0.iter().enumerate() {
+        put_line(page, row as u64, *kind, *number);
     }
 }
 
