@@ -81,6 +81,7 @@ fn ascii_block(text: &[u8]) -> bool
 }
 
 // What stands behind the blocks of ASCII at the front.
+// The loop has at its end what is asked for; `as_chunks` would count the blocks, and the rest be cut by their number.
 fn past_blocks(text: &[u8]) -> &[u8]
     ensures part { length result.now ≤ length text.now }
     ensures run { length text.now - length result.now + ascii_run result.now ≡ ascii_run text.now }
