@@ -480,13 +480,15 @@ fn inside(
     requires { (place + length body.now < 2 ^ 63) × (count < 2 ^ 32) }
     ensures { counted_is result ≡ contents whole (read.inside (below levels) levels place count body.now) }
 {
-    if 0 < count && levels == 0 {
-        return Err(refused(Reason::TooDeep, place));
-    }
-    let Some((code, rest)) = body.split_first() else {
-        if 0 < count {
+    if 0 < count {
+        if levels == 0 {
+            return Err(refused(Reason::TooDeep, place));
+        }
+        if body.is_empty() {
             return Err(refused(Reason::InputShort, place));
         }
+    }
+    let Some((code, rest)) = body.split_first() else {
         return Ok(Extent {
             length: whole,
             rows: 1,

@@ -1,5 +1,6 @@
 -- Values and what stands behind codes: `many`, `payload`, `behind`, `compound`, `array`, `inside` and `items` call each other.
 -- Each turn from `many` to `payload` and back costs a level; the measures order the rest.
+use Rattle.std.proofs.lemmas.Grind.{common_steps}
 use Rattle.std.proofs.Common.{◌≡◌, ◌+◌, ◌-◌, ◌<◌, length, sym, ap, ◌∙◌, arith, refl, Result, Some, None}
 use Rattle.std.proofs.lemmas.Result.{err_from_is_err_and}
 use Rattle.std.specs.Result.{IsErrAnd}
@@ -19,7 +20,7 @@ use Rattle.reader.proofs.Rooms.{rest, part_length}
 use Rattle.reader.proofs.Several.{run_roomy, begin, end, stops, ends, again, plainly, begun}
 use Rattle.reader.proofs.Nodes.{behind_of, compound_of, unknown_is, scalar_is, described_is, Framed, framed, unframed, compound_odd, compound_is, array_is, inside_deep, inside_none, inside_empty, inside_some, items_no, fit_of, items_is}
 use Rattle.reader.proofs.measuring.+array_behind_compound_inside_items_many_payload.Goals as goal
-use Rattle.reader.proofs.measuring.+array_behind_compound_inside_items_many_payload.Goals.{inside-else-count-gt0-via-then-count-gt0+else-levels-eq0, inside-else-count-gt0-via-else-count-gt0, many-then-is_plain+then-end-s, many-else-is_plain+in_ok-value}
+use Rattle.reader.proofs.measuring.+array_behind_compound_inside_items_many_payload.Goals.{inside-then-count-gt0+else-levels-eq0+else-is_empty, inside-else-count-gt0, many-then-is_plain+then-end-s, many-else-is_plain+in_ok-value}
 
 -- what a `?` passes on
 passed : (r : Result Extent Stop) (s : Stop) → IsErrAnd r (λ d. d ≡ s) → counted_is r ≡ stop_is s
@@ -128,24 +129,25 @@ compound-returns t c =
 pub inside-returns-then-levels-eq0 : goal.inside-returns-then-levels-eq0
 inside-returns-then-levels-eq0 t c = let a = c.args in rw c.refused.ensures (inside_deep a.levels a.whole a.place a.count a.body.now c.if-count-gt0.true c.if-levels-eq0.true)
 
-pub inside-returns-then-count-gt0-2 : goal.inside-returns-then-count-gt0-2
-inside-returns-then-count-gt0-2 t c =
-    let a = c.args in
-    let f : a.levels ≡ 0 → ⊥ = elim c.else-count-gt0.branch [
-      | inside-else-count-gt0-via-then-count-gt0+else-levels-eq0 w ↦ w.if-levels-eq0.false
-      | inside-else-count-gt0-via-else-count-gt0 w ↦ absurd (omega (arith, w.if-count-gt0.false, c.if-count-gt0-2.true))
-    ] in
-    rw c.refused-then-count-gt0-2.ensures (inside_none a.levels a.whole a.place a.count a.body.now c.if-count-gt0-2.true f c.in_default.ensures.cases)
+pub inside-returns-then-is_empty : goal.inside-returns-then-is_empty
+inside-returns-then-is_empty t c =
+    let a = c.args in rw c.refused-then-is_empty.ensures (inside_none a.levels a.whole a.place a.count a.body.now c.if-count-gt0.true c.if-levels-eq0.false (grind (arith, common_steps, c.is_empty.ensures, c.if-is_empty.true)))
 
 pub inside-returns-in_default : goal.inside-returns-in_default
-inside-returns-in_default t c = let a = c.args in inside_empty a.levels a.whole a.place a.count a.body.now (omega (arith, c.if-count-gt0-2.false)) c.in_default.ensures.cases
+inside-returns-in_default t c =
+    let a = c.args in
+    let n : a.count < 1 = elim c.if-count-gt0.branch [
+      | inside-then-count-gt0+else-levels-eq0+else-is_empty w ↦ absurd (grind (arith, common_steps, w.is_empty.ensures, w.if-is_empty.false, c.in_default.ensures.cases))
+      | inside-else-count-gt0 w ↦ omega (arith, w.if-count-gt0.false)
+    ] in
+    inside_empty a.levels a.whole a.place a.count a.body.now (omega (arith, n)) c.in_default.ensures.cases
 
 pub inside-returns : goal.inside-returns
 inside-returns t c =
     let a = c.args in
-    let f : 0 < a.count → 0 < a.levels = elim c.else-count-gt0.branch [
-      | inside-else-count-gt0-via-then-count-gt0+else-levels-eq0 w ↦ λ i. omega (arith, w.if-levels-eq0.false)
-      | inside-else-count-gt0-via-else-count-gt0 w ↦ λ i. absurd (omega (arith, w.if-count-gt0.false))
+    let f : 0 < a.count → 0 < a.levels = elim c.if-count-gt0.branch [
+      | inside-then-count-gt0+else-levels-eq0+else-is_empty w ↦ λ i. omega (arith, w.if-levels-eq0.false)
+      | inside-else-count-gt0 w ↦ λ i. absurd (omega (arith, w.if-count-gt0.false))
     ] in
     c.items.ensures ∙ sym (ap (contents a.whole) (inside_some a.levels a.place a.count c.in-Some.code.now a.body.now c.in-Some.rest.now f c.in-Some.ensures.cases.0))
 
