@@ -7,8 +7,11 @@ use native.Mathlib.Nat.{add-zero, mod-eq_of_lt}
 use native.Mathlib.Omega.{arith}
 use borrow.Author.Tests.{lt-ltb, ne_eqb}
 use lib.Dec.{T, eqb, eqb→eq, eqb-suc-zero, leb, leb→le, ltb}
-use lib.ListN.{length, drop, get_or, set, length-append, length-drop, length-set}
-use lib.Seq.{sets, length-sets, get_or-drop, drop-drop, get_or-set_same, get_or-set_other}
+use lib.ListN.{length, take, drop, get_or, length-append, length-drop}
+use lib.Seq.{sets, length-sets, get_or-drop, drop-drop}
+use Rattle.std.proofs.Math.Seq.{take-append_seam}
+use Rattle.std.proofs.lemmas.Bool.{false≢true}
+use Rattle.std.proofs.lemmas.List.{append_cancel_left}
 use Rattle.standard.specs.Choose.{if}
 use Rattle.standard.specs.Bytes.{be}
 use Rattle.standard.specs.Tree.{Tree, node, Trees, none, more, count, rows, rows*}
@@ -25,9 +28,8 @@ use Rattle.writer.specs.Heads.{head, item_width, body_of, Mode, values, elements
 use Rattle.writer.specs.Direct.{is_list_or_map, is_arrayed}
 use Rattle.writer.specs.Sizing.{Sure}
 use Rattle.writer.specs.Marks.{mark_width, marks, marks*}
-use Rattle.writer.specs.Marking.{none_begun, emptied, last_begun, popped, boxes, box_width, kind_on, number_on, bare, from_start, mode_in, opened, closed, taken, stacked, Ready, Complete, Markable}
+use Rattle.writer.specs.Marking.{boxes, box_width, kind_on, number_on, bare, from_start, mode_in, opened, closed, taken, stacked, Ready, Complete, Markable}
 use Rattle.writer.specs.declared.marking.Begun.{Begun}
-use Rattle.writer.specs.declared.marking.Stack.{Stack}
 use Rattle.writer.specs.declared.marking.Point.{Point}
 use Rattle.writer.proofs.Bodies.{enclosed_width, item_wide, item_short, head_short, kind_small}
 use Rattle.writer.proofs.Joined.{join, count_join, rows_join, marks_join, size_join, valid_join, deeper*, few}
@@ -72,49 +74,36 @@ pub record Run (levels left : ℕ) (m : Mode) (c : Spot) (vs : Trees) : Type 0 w
   pub sure : Sure c
   pub mode : mode_of c ≡ m
 
--- the topmost of so many
-abbrev topmost : List Begun → (top : ℕ) → Begun
-topmost st t = get_or st (t - 1) none_begun
-
 -- The compounds that have begun, and the rows behind each: from e at the end of the innermost, which has children of that mode, it goes on to z
-pub data Held (st : List Begun) (z : Reach) : (top levels : ℕ) → (mode : Mode) → (words : List ℕ) → Reach → Type 0 where
-  whole : {a : Mode} → length st ≡ level_most → z.size ≤ most → z.mark ≤ most → z.mark ≤ length z.buffer → Held st z 0 level_most a [] z
-  inside : {top l : ℕ} {a : Mode} {e : Reach} (c : Spot) (vs : Trees) (u : List ℕ) → 1 ≤ top → Run (suc l) (topmost st top).left (topmost st top).mode c vs → (topmost st top).size ≤ e.size → (topmost st top).mark + 3 ≤ length e.buffer
-      → Held st z (top - 1) (suc l) (topmost st top).mode u (over (topmost st top).mode vs (shut (topmost st top).mode a (topmost st top).size (topmost st top).mark e))
-      → Held st z top l a (rows* vs ++ u) e
+pub data Held (z : Reach) : List Begun → (levels : ℕ) → (mode : Mode) → (words : List ℕ) → Reach → Type 0 where
+  whole : {a : Mode} → z.size ≤ most → z.mark ≤ most → z.mark ≤ length z.buffer → Held z [] level_most a [] z
+  inside : {l : ℕ} {a : Mode} {e : Reach} (st : List Begun) (b : Begun) (c : Spot) (vs : Trees) (u : List ℕ) → Run (suc l) b.left b.mode c vs → b.size ≤ e.size → b.mark + 3 ≤ length e.buffer
+      → Held z st (suc l) b.mode u (over b.mode vs (shut b.mode a b.size b.mark e)) → Held z (st ++ b ∷ []) l a (rows* vs ++ u) e
 
 -- from a point on
-pub record Due (w : List ℕ) (z : Reach) (st : Stack) (o : List ℕ) (c : Point) : Type 0 where
+pub record Due (w : List ℕ) (z : Reach) (st : List Begun) (o : List ℕ) (c : Point) : Type 0 where
   pub spot : Spot
   pub rest : Trees
   pub levels : ℕ
   pub behind : List ℕ
   pub run : Run levels c.left c.mode spot rest
   pub rows_are : drop (2 * c.row) w ≡ rows* rest ++ behind
-  pub held : Held st.begun z st.top levels c.mode behind (over c.mode rest (reach c.size c.mark o))
+  pub held : Held z st levels c.mode behind (over c.mode rest (reach c.size c.mark o))
 
 -- The stack
 
-held_kept : {st r : List Begun} {z : Reach} {top l : ℕ} {a : Mode} {u : List ℕ} {e : Reach} → length r ≡ length st → ((i : ℕ) → i < top → get_or r i none_begun ≡ get_or st i none_begun) → Held st z top l a u e → Held r z top l a u e
-held_kept n k (whole h s f m) = whole (n ∙ h) s f m
-held_kept {top = top} {l = l} {a = a} {e = e} n k (inside c vs u h r s p g) =
-    let x = k (top - 1) (omega arith) in
-    inside {top = top} {l = l} {a = a} {e = e} c vs u h (rw x r) (rw x s) (rw x p) (rw x (held_kept n (λ i j. k i (omega arith)) g))
-
 -- sizes and marks only grow, and levels fall as the stack grows
-held_fits : {st : List Begun} {z : Reach} {top l : ℕ} {a : Mode} {u : List ℕ} {e : Reach} → Held st z top l a u e
-    → (e.size ≤ most) × (e.mark ≤ length e.buffer) × (length e.buffer ≡ length z.buffer) × (top + l ≡ level_most) × (length st ≡ level_most) × (e.mark ≤ most)
-held_fits (whole h s f m) = (s, m, refl, refl, h, f)
-held_fits (inside c vs u h r s p g) = let a = held_fits g in (omega (arith, a.0), omega (arith, simp length-sets at a.1), simp length-sets at a.2, omega (arith, a.3), a.4, omega (arith, a.5))
+held_fits : {z : Reach} {st : List Begun} {l : ℕ} {a : Mode} {u : List ℕ} {e : Reach} → Held z st l a u e
+    → (e.size ≤ most) × (e.mark ≤ length e.buffer) × (length e.buffer ≡ length z.buffer) × (length st + l ≡ level_most) × (e.mark ≤ most)
+held_fits (whole s f m) = (s, m, refl, refl, f)
+held_fits (inside st b c vs u r s p g) = let a = held_fits g in (omega (arith, a.0), omega (arith, simp length-sets at a.1), simp length-sets at a.2, omega (arith, a.3, length-append st (b ∷ [])), omega (arith, a.4))
 
--- one more of them has begun
-held_on : (st : List Begun) (z : Reach) (top l : ℕ) (a : Mode) (u : List ℕ) (e : Reach) (c : Spot) (vs : Trees) (b : Begun) → top < length st → Run (suc l) b.left b.mode c vs → b.size ≤ e.size → b.mark + 3 ≤ length e.buffer
-    → Held st z top (suc l) b.mode u (over b.mode vs (shut b.mode a b.size b.mark e)) → Held (set st top b) z (top + 1) l a (rows* vs ++ u) e
-held_on st z top l a u e c vs b h r i j g =
-    let t : top + 1 - 1 ≡ top = omega arith in
-    let x : topmost (set st top b) (top + 1) ≡ b = rw t (get_or-set_same st top b none_begun h) in
-    inside {top = top + 1} {l = l} {a = a} {e = e} c vs u (omega arith) (rw x r) (rw x i) (rw x j)
-    (rw (x, t) (held_kept (length-set st top b) (λ k q. get_or-set_other st top k b none_begun (omega arith)) g))
+-- two lists with the same last
+last_same : {A : Type 0} (s t : List A) (x y : A) → s ++ x ∷ [] ≡ t ++ y ∷ [] → (s ≡ t) × (x ≡ y)
+last_same s t x y e =
+    let n : length s ≡ length t = omega (arith, ap length e, length-append s (x ∷ []), length-append t (y ∷ [])) in
+    let p : s ≡ t = sym (take-append_seam s (x ∷ [])) ∙ ap (take (length s)) e ∙ rw n (take-append_seam t (y ∷ [])) in
+    (p, ap (λ l. get_or l 0 x) (append_cancel_left t (x ∷ []) (y ∷ []) (rw p at e)))
 
 -- Rows: compounds that are not empty, described values, and those without children
 
@@ -237,11 +226,11 @@ module _ {m : Mode} (c : Spot) (q : mode_of c ≡ m) (p : Sure c) (k n : ℕ) (t
 -- Steps
 
 -- what is left of rows and open compounds
-abbrev pub to_go : (words : List ℕ) → Stack → Point → ℕ
-to_go w st c = 2 * (length w - 2 * c.row) + st.top
+abbrev pub to_go : (words : List ℕ) → List Begun → Point → ℕ
+to_go w st c = 2 * (length w - 2 * c.row) + length st
 
 -- from c to r: it can be done, what was due is due from there on, and less is left
-pub record Step (w : List ℕ) (z : Reach) (st : Stack) (c : Point) (asks : Type 0) (t : Stack) (o : List ℕ) (r : Point) : Type 0 where
+pub record Step (w : List ℕ) (z : Reach) (st : List Begun) (c : Point) (asks : Type 0) (t : List Begun) (o : List ℕ) (r : Point) : Type 0 where
   pub can : asks
   pub due : Due w z t o r
   pub less : to_go w t r < to_go w st c
@@ -253,9 +242,9 @@ two w i k n u e =
     let a : (m : ℕ) → get_or w (2 * i + m) 0 ≡ get_or (k ∷ n ∷ u) m 0 = λ m. sym (get_or-drop (2 * i) w m 0) ∙ ap (λ l. get_or l m 0) e in
     (rw add-zero at (a 0), a 1, omega (arith, ap length e, length-drop (2 * i) w), rw (j, ← drop-drop 2 (2 * i) w, e))
 
-module _ (w : List ℕ) (z : Reach) (st : Stack) (o : List ℕ) (c : Point) (s : Spot) (k n : ℕ) (t : List ℕ) (cs vs : Trees) (l : ℕ) (u : List ℕ)
+module _ (w : List ℕ) (z : Reach) (st : List Begun) (o : List ℕ) (c : Point) (s : Spot) (k n : ℕ) (t : List ℕ) (cs vs : Trees) (l : ℕ) (u : List ℕ)
     (y : (kind_on w c ≡ k) × (number_on w c ≡ n) × (2 * c.row + 2 ≤ length w) × (drop (2 * (c.row + 1)) w ≡ (rows* cs ++ rows* vs) ++ u))
-    (r : Run (suc l) c.left c.mode s (more (node k n t cs) vs)) (g : Held st.begun z st.top (suc l) c.mode u (over c.mode (more (node k n t cs) vs) (reach c.size c.mark o))) where
+    (r : Run (suc l) c.left c.mode s (more (node k n t cs) vs)) (g : Held z st (suc l) c.mode u (over c.mode (more (node k n t cs) vs) (reach c.size c.mark o))) where
   own : Row s k n t cs
   own = r.valid.0.0
 
@@ -292,9 +281,9 @@ module _ (w : List ℕ) (z : Reach) (st : Stack) (o : List ℕ) (c : Point) (s :
           behind = rows* vs ++ u;
           run = record { full = own.full ∙ x.full; valid = r.valid.0.1; sure = sure_inside (style_of k) k n own.in_range; mode = x.mode };
           rows_are = y.3 ∙ append_assoc (rows* cs) (rows* vs) u;
-          held = held_on st.begun z st.top l (mode_in k) u _ s vs (opened c) (omega arith) behind_run (omega arith) (rw length-sets (omega (arith, simp length-sets at a.1))) h;
+          held = inside {e = over (mode_in k) cs (reach c.size (c.mark + 3) o)} st (opened c) s vs u behind_run (omega arith) (rw length-sets (omega (arith, simp length-sets at a.1))) h;
         },
-        omega (arith, y.2),
+        omega (arith, y.2, length-append st (opened c ∷ [])),
       )
 
   stepped : length w ≤ 2 * most → c.left ≤ length w → Step w z st c (Ready w st c) (stacked st c (kind_on w c) (number_on w c)) o (taken c (kind_on w c) (number_on w c))
@@ -309,7 +298,6 @@ module _ (w : List ℕ) (z : Reach) (st : Stack) (o : List ℕ) (c : Point) (s :
           row = omega (arith, y.2);
           some = omega (arith, r.full);
           room = omega arith;
-          long = a.4;
           small = rw (y.0, y.1) (omega (arith, row_size s r.mode r.sure k n t cs vs own));
           mark = omega arith;
           left = omega arith;
@@ -318,56 +306,55 @@ module _ (w : List ℕ) (z : Reach) (st : Stack) (o : List ℕ) (c : Point) (s :
         less = rw (y.0, y.1) b.1;
       }
 
-module _ {w : List ℕ} {z : Reach} {st : Stack} {o : List ℕ} {c : Point} (d : Due w z st o c) where
-  pub left_small : (c.left ≤ length w) × (st.top ≤ level_most) × (length st.begun ≡ level_most)
-  left_small =
-      let a = held_fits d.held in
-      (omega (arith, d.run.full, few d.rest, ap length d.rows_are, length-append (rows* d.rest) d.behind, length-drop (2 * c.row) w), omega arith, a.4)
+module _ {w : List ℕ} {z : Reach} {st : List Begun} {o : List ℕ} {c : Point} (d : Due w z st o c) where
+  left_small : c.left ≤ length w
+  left_small = omega (arith, d.run.full, few d.rest, ap length d.rows_are, length-append (rows* d.rest) d.behind, length-drop (2 * c.row) w)
 
   -- a row is due
   pub turn : 0 < c.left → length w ≤ 2 * most → Step w z st c (Ready w st c) (stacked st c (kind_on w c) (number_on w c)) o (taken c (kind_on w c) (number_on w c))
   unfolding count rows*
   turn h i = go d.rest d.levels d.run d.rows_are d.held
     where
-      go : (vs : Trees) (l : ℕ) → Run l c.left c.mode d.spot vs → drop (2 * c.row) w ≡ rows* vs ++ d.behind → Held st.begun z st.top l c.mode d.behind (over c.mode vs (reach c.size c.mark o))
+      go : (vs : Trees) (l : ℕ) → Run l c.left c.mode d.spot vs → drop (2 * c.row) w ≡ rows* vs ++ d.behind → Held z st l c.mode d.behind (over c.mode vs (reach c.size c.mark o))
           → Step w z st c (Ready w st c) (stacked st c (kind_on w c) (number_on w c)) o (taken c (kind_on w c) (number_on w c))
       go none l r e g = absurd (omega (arith, r.full))
       go (more (node k n t cs) vs) zero r e g = absurd r.valid.0
-      go (more (node k n t cs) vs) (suc l) r e g = stepped w z st o c d.spot k n t cs vs l d.behind (two w c.row k n ((rows* cs ++ rows* vs) ++ d.behind) e) r g i left_small.0
+      go (more (node k n t cs) vs) (suc l) r e g = stepped w z st o c d.spot k n t cs vs l d.behind (two w c.row k n ((rows* cs ++ rows* vs) ++ d.behind) e) r g i left_small
 
   -- none is due
-  spent : c.left ≡ 0 → (drop (2 * c.row) w ≡ d.behind) × Held st.begun z st.top d.levels c.mode d.behind (reach c.size c.mark o)
+  spent : c.left ≡ 0 → (drop (2 * c.row) w ≡ d.behind) × Held z st d.levels c.mode d.behind (reach c.size c.mark o)
   unfolding count rows*
   spent e = go d.rest d.run.full d.rows_are d.held
     where
-      go : (vs : Trees) → count vs ≡ c.left → drop (2 * c.row) w ≡ rows* vs ++ d.behind → Held st.begun z st.top d.levels c.mode d.behind (over c.mode vs (reach c.size c.mark o))
-          → (drop (2 * c.row) w ≡ d.behind) × Held st.begun z st.top d.levels c.mode d.behind (reach c.size c.mark o)
+      go : (vs : Trees) → count vs ≡ c.left → drop (2 * c.row) w ≡ rows* vs ++ d.behind → Held z st d.levels c.mode d.behind (over c.mode vs (reach c.size c.mark o))
+          → (drop (2 * c.row) w ≡ d.behind) × Held z st d.levels c.mode d.behind (reach c.size c.mark o)
       go none n r g = (r, rw (none_over c.mode (reach c.size c.mark o)) at g)
       go (more v vs) n r g = absurd (omega arith)
 
   -- the innermost compound ends
-  pub ended : c.left ≡ 0 → 0 < st.top → length w ≤ 2 * most → (b : Begun) → b ≡ last_begun st → Step w z st c (Complete b o c) (popped st) (sets o b.mark (be 3 (c.size - b.size))) (closed b c)
-  ended e h n b f = rw f (go refl refl refl (spent e).0 (spent e).1)
+  pub ended : c.left ≡ 0 → length w ≤ 2 * most → (t : List Begun) (b : Begun) → st ≡ t ++ b ∷ [] → Step w z st c (Complete b o c) t (sets o b.mark (be 3 (c.size - b.size))) (closed b c)
+  ended e n t b f = go refl refl f (spent e).0 (spent e).1
     where
-      go : {t l : ℕ} {a : Mode} {u : List ℕ} {x : Reach} → st.top ≡ t → c.mode ≡ a → reach c.size c.mark o ≡ x → drop (2 * c.row) w ≡ u → Held st.begun z t l a u x
-          → Step w z st c (Complete (last_begun st) o c) (popped st) (sets o (last_begun st).mark (be 3 (c.size - (last_begun st).size))) (closed (last_begun st) c)
-      go t q x r (whole i j f k) = absurd (omega arith)
-      go {l = l} t q x r (inside s vs u i j k m g) =
+      go : {y : List Begun} {l : ℕ} {a : Mode} {u : List ℕ} {x : Reach} → c.mode ≡ a → reach c.size c.mark o ≡ x → y ≡ t ++ b ∷ [] → drop (2 * c.row) w ≡ u → Held z y l a u x
+          → Step w z st c (Complete b o c) t (sets o b.mark (be 3 (c.size - b.size))) (closed b c)
+      go q x y r (whole i j k) = absurd (omega (arith, ap length y, length-append t (b ∷ [])))
+      go {l = l} q x y r (inside t' b' s vs u j k m g) =
           let a = held_fits g in
-          let b = ap (λ y. y.size) x in
+          let i = ap (λ y. y.size) x in
+          let h = last_same t' t b' b y in
           record {
-            can = record { start = rw t (rw (← x) at k); place = rw t (rw (← x) at m); small = omega arith };
-            due = record { spot = s; rest = vs; levels = suc l; behind = u; run = rw t j; rows_are = r; held = rw (t, q) (rw (← x) at g) };
-            less = omega arith;
+            can = record { start = rw h.1 at (rw (← x) at k); place = rw h.1 at (rw (← x) at m); small = omega arith };
+            due = record { spot = s; rest = vs; levels = suc l; behind = u; run = rw h.1 at j; rows_are = r; held = rw (q, ← h.0, ← h.1) (rw (← x) at g) };
+            less = omega (arith, ap length f, length-append t (b ∷ []));
           }
 
   -- all is done
-  pub finished : c.left ≡ 0 → st.top ≡ 0 → o ≡ z.buffer
+  pub finished : c.left ≡ 0 → (0 < length st → false ≡ true) → o ≡ z.buffer
   finished e h = go refl (spent e).1
     where
-      go : {t l : ℕ} {a : Mode} {u : List ℕ} {x : Reach} → st.top ≡ t → Held st.begun z t l a u x → x.buffer ≡ z.buffer
-      go t (whole i j f k) = refl
-      go t (inside s vs u i j k m g) = absurd (omega arith)
+      go : {y : List Begun} {l : ℕ} {a : Mode} {u : List ℕ} {x : Reach} → st ≡ y → Held z y l a u x → x.buffer ≡ z.buffer
+      go t (whole i j k) = refl
+      go t (inside y b s vs u j k m g) = absurd (false≢true (h (omega (arith, ap length t, length-append y (b ∷ [])))))
 
 -- a table has no more rows than bytes, and two words to each
 pub few_words : {w o : List ℕ} {m : ℕ} {v : Tree} → Markable w o m v → length w ≤ 2 * most
@@ -380,7 +367,7 @@ abbrev pub goal : (buffer : List ℕ) → (mark : ℕ) → Tree → Reach
 goal o m v = reach (length (encode v)) (m + length (marks v)) (sets o m (marks v))
 
 -- are due at its first row
-pub at_start : (w o : List ℕ) (m : ℕ) (v : Tree) (st : Stack) → st ≡ emptied → Markable w o m v → Due w (goal o m v) st o (from_start m)
+pub at_start : (w o : List ℕ) (m : ℕ) (v : Tree) (st : List Begun) → st ≡ [] → Markable w o m v → Due w (goal o m v) st o (from_start m)
 unfolding count rows* encode* marks* mode_of
 at_start w o m v st h k = rw h (record {
   spot = any;
@@ -389,7 +376,7 @@ at_start w o m v st h k = rw h (record {
   behind = [];
   run = record { full = refl; valid = (k.valid, tt); sure = tt; mode = refl };
   rows_are = k.rows_are ∙ sym (append-nil (rows v ++ []) ∙ append-nil (rows v));
-  held = subst (Held emptied.begun (goal o m v) 0 level_most values []) (sym all) (whole refl k.small k.ends (rw length-sets k.room));
+  held = subst (Held (goal o m v) [] level_most values []) (sym all) (whole k.small k.ends (rw length-sets k.room));
 })
   where
     all : over values (more v none) (reach 0 m o) ≡ goal o m v
@@ -412,10 +399,10 @@ bare_small : (m : Mode) (k n : ℕ) → bare m k n ≤ 10 + letters (style_of k)
 bare_small values k n = omega (arith, head_short k (k % 256) n 0)
 bare_small elements k n = omega (arith, item_wide (style_of k) n 0, item_short k)
 
-pub bare_fits : (w : List ℕ) (st : Stack) (c : Point) → Ready w st c → c.size + bare c.mode (kind_on w c) (number_on w c) < 2 ^ 64
+pub bare_fits : (w : List ℕ) (st : List Begun) (c : Point) → Ready w st c → c.size + bare c.mode (kind_on w c) (number_on w c) < 2 ^ 64
 bare_fits w st c h = omega (arith, h.small, bare_small c.mode (kind_on w c) (number_on w c))
 
-pub past_asks : (w : List ℕ) (st : Stack) (c : Point) → Ready w st c → (y m : ℕ) → y ≡ bare c.mode (kind_on w c) (number_on w c) → m ≡ if (eqb (kind_on w c) 0) 2 0 → (c.row + 1 < 2 ^ 64) × (c.size + y < 2 ^ 64) × (0 < c.left) × (c.left + m < 2 ^ 64)
+pub past_asks : (w : List ℕ) (st : List Begun) (c : Point) → Ready w st c → (y m : ℕ) → y ≡ bare c.mode (kind_on w c) (number_on w c) → m ≡ if (eqb (kind_on w c) 0) 2 0 → (c.row + 1 < 2 ^ 64) × (c.size + y < 2 ^ 64) × (0 < c.left) × (c.left + m < 2 ^ 64)
 past_asks w st c h y m f g =
     let i : m ≤ 2 = rw g (if_case (λ (z : ℕ). z ≤ 2) (eqb (kind_on w c) 0) 2 0 (λ t. omega arith) (λ t. omega arith)) in
     (h.row, omega (arith, f, bare_fits w st c h), h.some, omega (arith, h.left))

@@ -1,6 +1,5 @@
 -- Marking: how it goes from point to point, and the tables that it is for.
-use Rattle.std.specs.Prelude.{ℕ, ◌+◌, ◌*◌, ◌-◌, ◌%◌, ◌^◌, ◌≤◌, ◌<◌, ◌≡◌, List, Bool, true, eqb, ltb, length, get_or, set, Option, MatchOption}
-use lib.ListN.{replicate}
+use Rattle.std.specs.Prelude.{ℕ, ◌+◌, ◌*◌, ◌-◌, ◌%◌, ◌^◌, ◌≤◌, ◌<◌, ◌≡◌, List, [], ◌∷◌, ◌++◌, Bool, true, eqb, ltb, length, get_or}
 use Rattle.standard.specs.Choose.{if}
 use Rattle.standard.specs.Tree.{Tree, rows}
 use Rattle.standard.specs.Kinds.{Style, style_of, is_kind, count_in}
@@ -10,7 +9,6 @@ use Rattle.standard.specs.Outcomes.{level_most}
 use Rattle.writer.specs.Heads.{Mode, values, elements, array_width, head_in}
 use Rattle.writer.specs.Marks.{mark_width, marks}
 use Rattle.writer.specs.declared.marking.Begun.{Begun}
-use Rattle.writer.specs.declared.marking.Stack.{Stack}
 use Rattle.writer.specs.declared.marking.Point.{Point}
 
 -- is a row a list, a map or an array that is not empty: a row with a mark
@@ -36,27 +34,11 @@ number_on w c = get_or w (2 * c.row + 1) 0
 abbrev pub bare : Mode → (kind number : ℕ) → ℕ
 bare m k n = length (head_in m (style_of k) (k % 256) n 0) + letters (style_of k) n
 
--- Stacks
+-- Stacks: those that have begun, the innermost last
 
-abbrev pub none_begun : Begun
-none_begun = record { size = 0; mark = 0; left = 0; mode = values }
-
--- with nothing on it
-abbrev pub emptied : Stack
-emptied = record { begun = replicate level_most none_begun; top = 0 }
-
-abbrev pub pushed : Stack → Begun → Stack
-pushed s e = record { begun = set s.begun s.top e; top = s.top + 1 }
-
--- the last of them
-abbrev pub last_begun : Stack → Begun
-last_begun s = get_or s.begun (s.top - 1) none_begun
-
-abbrev pub popped : Stack → Stack
-popped s = record { begun = s.begun; top = s.top - 1 }
-
-abbrev pub Popped : (before after : Stack) → Option Begun → Type 0
-Popped s t r = MatchOption r ((s.top ≡ 0) × (t ≡ s)) (λ e. (0 < s.top) × (e ≡ last_begun s) × (t ≡ popped s))
+-- one more has begun
+abbrev pub pushed : List Begun → Begun → List Begun
+pushed s e = s ++ e ∷ []
 
 -- Points
 
@@ -87,16 +69,15 @@ closed e c = record { row = c.row; size = c.size + box_width e.mode c.mode (c.si
 abbrev pub taken : Point → (kind number : ℕ) → Point
 taken c k n = if (boxes (style_of k) n) (entered c k (count_in n)) (beyond c (bare c.mode k n) (if (eqb k 0) 2 0))
 
-abbrev pub stacked : Stack → Point → (kind number : ℕ) → Stack
+abbrev pub stacked : List Begun → Point → (kind number : ℕ) → List Begun
 stacked s c k n = if (boxes (style_of k) n) (pushed s (opened c)) s
 
 -- A row of a kind is due, it has room on the stack and its numbers fit 32 bits there, and its sums fit
-pub record Ready (words : List ℕ) (s : Stack) (c : Point) : Type 0 where
+pub record Ready (words : List ℕ) (s : List Begun) (c : Point) : Type 0 where
   pub here : 2 * c.row + 2 ≤ length words
   pub known : is_kind (style_of (kind_on words c)) ≡ true
   pub some : 0 < c.left
-  pub room : s.top < level_most
-  pub long : length s.begun ≡ level_most
+  pub room : length s < level_most
   pub small : c.size + letters (style_of (kind_on words c)) (number_on words c) ≤ most
   pub row : c.row + 1 < 2 ^ 64
   pub mark : c.mark + 3 < 2 ^ 32

@@ -17,8 +17,9 @@ pub(crate) const SHORT_END: u64 = 255;
 pub(crate) const MARK_WIDTH: usize = 3;
 
 // Rows are values, with codes of their own, or elements of an array.
-#[derive(Clone, Copy)]
+#[derive(Clone, Copy, Default)]
 pub enum Mode {
+    #[default]
     Values,
     Elements,
 }

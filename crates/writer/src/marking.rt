@@ -10,19 +10,21 @@ ghost use Rattle.standard.specs.Tree.{Tree};
 ghost use Rattle.standard.specs.Kinds.{style_of};
 ghost use Rattle.standard.specs.InCode.{kind_is};
 ghost use Rattle.standard.specs.Outcomes.{level_most};
+ghost use Rattle.arrayvec.specs.ArrayVec.{array_vec_len};
 ghost use Rattle.writer.specs.Heads.{head_in};
 ghost use Rattle.writer.specs.Marks.{marks};
-ghost use Rattle.writer.specs.Marking.{emptied, pushed, Popped, opened, boxes, box_width, kind_on, number_on, from_start, beyond, mode_in, entered, closed, taken, stacked, Ready, Complete, Markable, Tabled};
+ghost use Rattle.writer.specs.Marking.{pushed, opened, boxes, box_width, kind_on, number_on, from_start, beyond, mode_in, entered, closed, taken, stacked, Ready, Complete, Markable, Tabled};
 
 use crate::head::Mode;
 use crate::row::Row;
 use crate::{head, put, row};
+use arrayvec::ArrayVec;
 use standard::kind::Kind;
 use standard::{kind, limit};
 
 // A list, a map or an array that has begun: the bytes before it, the place of its mark, and how many rows are due behind it and what they
 // are. Every number is below 2^22, so 32 bits are enough for it and the stack stays small.
-#[derive(Clone, Copy)]
+#[derive(Clone, Copy, Default)]
 pub struct Begun {
     pub size: u32,
     pub mark: u32,
@@ -30,48 +32,8 @@ pub struct Begun {
     pub mode: Mode,
 }
 
-// Those that have not ended, the innermost last. The room is fixed; `top` says how many there are.
-#[derive(Drop)]
-pub struct Stack {
-    pub begun: [Begun; limit::MOST],
-    pub top: usize,
-}
-
-impl Stack {
-    fn new() -> Self
-        ensures { result ≡ emptied }
-    {
-        let none = Begun {
-            size: 0,
-            mark: 0,
-            left: 0,
-            mode: Mode::Values,
-        };
-        Self {
-            begun: [none; limit::MOST],
-            top: 0,
-        }
-    }
-
-    fn push(&mut self, begun: Begun)
-        requires { (self.old.top < level_most) × (length self.old.begun ≡ level_most) }
-        ensures { self.new ≡ pushed self.old begun }
-    {
-        self.begun[self.top] = begun;
-        self.top += 1;
-    }
-
-    fn pop(&mut self) -> Option<Begun>
-        requires { (self.old.top ≤ level_most) × (length self.old.begun ≡ level_most) }
-        ensures { Popped self.old self.new result }
-    {
-        if self.top == 0 {
-            return None;
-        }
-        self.top -= 1;
-        Some(self.begun[self.top])
-    }
-}
+// Those that have not ended, the innermost last.
+type Stack = ArrayVec<Begun, { limit::MOST }>;
 
 // The next row, the bytes before it, the next mark, how many rows are due before the innermost open compound ends, and what they are.
 #[derive(Clone, Copy)]
@@ -150,8 +112,8 @@ fn mode_in(kind: Kind) -> Mode
 
 // A list, a map or an array with so many children begins.
 fn open(stack: &mut Stack, c: Point, kind: Kind, count: usize) -> Point
-    requires { (stack.old.top < level_most) × (length stack.old.begun ≡ level_most) × (0 < c.left) × (c.left < 2 ^ 31) × (c.row + 1 < 2 ^ 64) × (c.size < 2 ^ 32) × (c.mark + 3 < 2 ^ 32) }
-    ensures { (result ≡ entered c (kind_is kind) count) × (stack.new ≡ pushed stack.old (opened c)) }
+    requires { (array_vec_len stack.old < level_most) × (0 < c.left) × (c.left < 2 ^ 31) × (c.row + 1 < 2 ^ 64) × (c.size < 2 ^ 32) × (c.mark + 3 < 2 ^ 32) }
+    ensures { (result ≡ entered c (kind_is kind) count) × (stack.new.items ≡ pushed stack.old.items (opened c)) }
 {
     stack.push(Begun {
         size: c.size as u32,
@@ -206,9 +168,9 @@ fn due_in_place(kind: Kind) -> usize
 
 // The next row.
 fn take_row(words: &[u64], stack: &mut Stack, c: Point) -> Point
-    requires { Ready words.now stack.old c }
+    requires { Ready words.now stack.old.items c }
     ensures { (result ≡ taken c (kind_on words.now c) (number_on words.now c))
-        × (stack.new ≡ stacked stack.old c (kind_on words.now c) (number_on words.now c)) }
+        × (stack.new.items ≡ stacked stack.old.items c (kind_on words.now c) (number_on words.now c)) }
 {
     let Row { kind, number } = row::known_row(words, c.row);
     if is_boxed(kind, number) {

@@ -1,6 +1,6 @@
 -- `mark_table` takes row after row, and closes what is complete.
 use native.Mathlib.Omega.{arith}
-use Rattle.writer.proofs.Onward.{few_words, at_start, left_small, turn, ended, finished}
+use Rattle.writer.proofs.Onward.{few_words, at_start, turn, ended, finished}
 use Rattle.writer.proofs.marking.mark_table.Goals as goal
 
 pub loop-c-init : goal.loop-c-init
@@ -15,14 +15,11 @@ loop-c-smaller-then-c-gt0 c = rw (c.take_row-c.ensures.0, c.take_row-c.ensures.1
 pub loop-c-preserved-then-c-gt0 : goal.loop-c-preserved-then-c-gt0
 loop-c-preserved-then-c-gt0 c = λ v k. rw (c.take_row-c.ensures.0, c.take_row-c.ensures.1) (turn (c.loop-c.invariant v k) c.if-c-gt0.true (few_words k)).due
 
-pub pop-requires : goal.pop-requires
-pop-requires c = let a = left_small (c.loop-c.invariant c.requires.tree c.requires.fits) in (a.1, a.2)
-
 pub close-c-requires : goal.close-c-requires
-close-c-requires c = (ended (c.loop-c.invariant c.requires.tree c.requires.fits) (omega (arith, c.if-c-gt0.false)) c.in-Some.ensures.0 (few_words c.requires.fits) _ c.in-Some.ensures.1).can
+close-c-requires c = (ended (c.loop-c.invariant c.requires.tree c.requires.fits) (omega (arith, c.if-c-gt0.false)) (few_words c.requires.fits) _ _ c.in-Some.ensures.items).can
 
 pub loop-c-preserved : goal.loop-c-preserved
-loop-c-preserved c = λ v k. rw (c.close-c.ensures.0, c.close-c.ensures.1, c.in-Some.ensures.2) (ended (c.loop-c.invariant v k) (omega (arith, c.if-c-gt0.false)) c.in-Some.ensures.0 (few_words k) _ c.in-Some.ensures.1).due
+loop-c-preserved c = λ v k. rw (c.close-c.ensures.0, c.close-c.ensures.1) (ended (c.loop-c.invariant v k) (omega (arith, c.if-c-gt0.false)) (few_words k) _ _ c.in-Some.ensures.items).due
 
 pub returns-in_default : goal.returns-in_default
-returns-in_default c = λ v k. finished (c.loop-c.invariant v k) (omega (arith, c.if-c-gt0.false)) c.in_default.ensures.0
+returns-in_default c = λ v k. finished (c.loop-c.invariant v k) (omega (arith, c.if-c-gt0.false)) c.in_default.ensures.variant.1
