@@ -1,15 +1,20 @@
--- The runs that are due, as the code keeps them: the one on top, and an array of the others.
-use Rattle.std.specs.Prelude.{ℕ, zero, suc, ◌+◌, ◌-◌, ◌≤◌, ◌<◌, ◌≡◌, refl, List, ◌∷◌, length, get_or, set}
-use Rattle.std.proofs.Common.{sym, ap, ◌∙◌, arith, get_or-set_same, get_or-set_other}
+-- The runs that are due, as the code keeps them: the one on top, and a vector of the others.
+use Rattle.std.specs.Prelude.{ℕ, zero, suc, Option, Some, None, ◌+◌, ◌-◌, ◌≤◌, ◌<◌, ◌≡◌, List, [], ◌∷◌, ◌++◌, length}
+use Rattle.std.proofs.Common.{sym, ap, ◌∙◌, arith, append-nil, length-append}
+use Rattle.std.proofs.lemmas.List.Sums.{fold-append}
+use Rattle.std.specs.Option.{option_to_list}
+use Rattle.std.specs.List.{fold}
 use Rattle.laws.specs.Flat.{Head, Run, run, push}
 use Rattle.laws.specs.Flow.{push_length}
-use Rattle.reader.specs.Runs.{head_is, none, kept_is}
+use Rattle.reader.specs.Runs.{head_is, put_run, kept_is}
 use Rattle.reader.specs.declared.due.Run as code
 
-kept_length : (rs : List code.Run) (n : ℕ) → length (kept_is rs n) ≤ n
-unfolding kept_is
-kept_length rs zero = omega arith
-kept_length rs (suc n) = omega (arith, kept_length rs n, push_length (get_or rs n none).left (head_is (get_or rs n none).code) (kept_is rs n))
+fold_length : (t : List Run) (rs : List code.Run) → length (fold put_run t rs) ≤ length t + length rs
+fold_length t [] = omega arith
+fold_length t (r ∷ rs) = omega (arith, fold_length (put_run t r) rs, push_length r.left (head_is r.code) t)
+
+kept_length : (rs : List code.Run) → length (kept_is rs) ≤ length rs
+kept_length rs = omega (arith, fold_length [] rs)
 
 -- a run that makes the stack longer has a value
 push_some : (k : ℕ) (h : Head) (t : List Run) → length t < length (push k h t) → 1 ≤ k
@@ -26,46 +31,36 @@ unfolding push
 push_one zero h t i = absurd (omega arith)
 push_one (suc k) h t i = let e : suc k - 1 ≡ k = omega arith in rw e
 
--- none of the runs that are kept is used up
-module _ (rs : List code.Run) (n : ℕ) (f : length (kept_is rs n) ≡ n) where
-  -- Where the run on top is, with k left, the last that is kept has a value
-  module _ (k : ℕ) (h : Head) (e : k ≡ 0) (i : 1 ≤ length (push k h (kept_is rs n))) where
-    pub some_kept : 1 ≤ n
-    some_kept = omega (arith, f, ap length (push_none k h (kept_is rs n) e))
+-- a run that is put behind those that are kept
+pub kept_more : (rs : List code.Run) (x : code.Run) → kept_is (rs ++ x ∷ []) ≡ put_run (kept_is rs) x
+kept_more rs x = fold-append put_run [] rs (x ∷ [])
 
-    abbrev last : code.Run
-    last = get_or rs (n - 1) none
+-- none of the runs that are kept is used up, where one is put behind them
+pub more_full : (rs : List code.Run) (x : code.Run) → length (kept_is rs) ≡ length rs → 1 ≤ x.left → length (kept_is (rs ++ x ∷ [])) ≡ length (rs ++ x ∷ [])
+more_full rs x f o = rw (kept_more rs x, push_one x.left (head_is x.code) (kept_is rs) o, length-append rs (x ∷ [])) (omega (arith, f))
 
-    pub popped : push last.left (head_is last.code) (kept_is rs (n - 1)) ≡ push k h (kept_is rs n)
-    unfolding kept_is
-    popped =
-        let s : suc (n - 1) ≡ n = omega (arith, some_kept) in
-        ap (kept_is rs) s ∙ sym (push_none k h (kept_is rs n) e)
+-- The last of them is taken, where the run on top is, with k left
+pub some_kept : (rs : List code.Run) (k : ℕ) (h : Head) → k ≡ 0 → 1 ≤ length (push k h (kept_is rs)) → 0 < length rs
+some_kept rs k h e i = omega (arith, ap length (push_none k h (kept_is rs) e), kept_length rs)
 
-    grown : length (push last.left (head_is last.code) (kept_is rs (n - 1))) ≡ n
-    grown = ap length popped ∙ ap length (push_none k h (kept_is rs n) e) ∙ f
+module _ (rs : List code.Run) (x : code.Run) (f : length (kept_is (rs ++ x ∷ [])) ≡ length (rs ++ x ∷ [])) where
+  grown : length (push x.left (head_is x.code) (kept_is rs)) ≡ length rs + 1
+  grown = ap length (sym (kept_more rs x)) ∙ f ∙ length-append rs (x ∷ [])
 
-    pub still_full : length (kept_is rs (n - 1)) ≡ n - 1
-    still_full = omega (arith, some_kept, grown, kept_length rs (n - 1), push_length last.left (head_is last.code) (kept_is rs (n - 1)))
+  still_full : length (kept_is rs) ≡ length rs
+  still_full = omega (arith, grown, kept_length rs, push_length x.left (head_is x.code) (kept_is rs))
 
-    pub last_some : 1 ≤ last.left
-    last_some = push_some last.left (head_is last.code) (kept_is rs (n - 1)) (omega (arith, some_kept, grown, kept_length rs (n - 1)))
+  last_some : 1 ≤ x.left
+  last_some = push_some x.left (head_is x.code) (kept_is rs) (omega (arith, grown, kept_length rs))
 
-  -- A run that is put behind those that are kept
+-- what stands below, and what is on top
+pub rest_full : (old new : List code.Run) (o : Option code.Run) → length (kept_is old) ≡ length old → old ≡ new ++ option_to_list o → length (kept_is new) ≡ length new
+rest_full old new None f e = rw (e, append-nil) at f
+rest_full old new (Some x) f e = still_full new x (rw e at f)
 
-  kept_set : (x : code.Run) (m : ℕ) → m ≤ n → kept_is (set rs n x) m ≡ kept_is rs m
-  unfolding kept_is
-  kept_set x zero h = refl
-  kept_set x (suc m) h =
-      let o : m ≡ n → ⊥ = omega arith in
-      rw (get_or-set_other rs n m x none o, kept_set x m (omega arith))
+module _ (old new : List code.Run) (x : code.Run) (f : length (kept_is old) ≡ length old) (e : old ≡ new ++ x ∷ []) where
+  pub last_left : 1 ≤ x.left
+  last_left = last_some new x (rw e at f)
 
-  module _ (x : code.Run) (h : n < length rs) where
-    pub kept_more : kept_is (set rs n x) (n + 1) ≡ push x.left (head_is x.code) (kept_is rs n)
-    unfolding kept_is
-    kept_more =
-        let e : n + 1 ≡ suc n = omega arith in
-        rw (e, get_or-set_same rs n x none h, kept_set x n (omega arith))
-
-    pub more_full : (x.left ≡ 0 → ⊥) → length (kept_is (set rs n x) (n + 1)) ≡ n + 1
-    more_full o = rw (kept_more, push_one x.left (head_is x.code) (kept_is rs n) (omega arith)) (omega (arith, f))
+  pub popped : (k : ℕ) (h : Head) → k ≡ 0 → push x.left (head_is x.code) (kept_is new) ≡ push k h (kept_is old)
+  popped k h z = sym (kept_more new x) ∙ ap kept_is (sym e) ∙ sym (push_none k h (kept_is old) z)

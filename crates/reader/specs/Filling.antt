@@ -21,7 +21,7 @@ Lands (refuse x p) = ⊥
 
 -- the runs that are due below the one on top, and with it
 abbrev pub below_is : Below → List Run
-below_is b = kept_is b.runs b.kept
+below_is b = kept_is b.runs.items
 
 abbrev pub due_is : code.Run → Below → List Run
 due_is t b = push t.left (head_is t.code) (below_is b)

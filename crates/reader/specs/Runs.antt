@@ -1,5 +1,6 @@
 -- The runs that filling keeps, in the terms of the flat reading (Flat.antt of `laws`).
-use Rattle.std.specs.Prelude.{ℕ, zero, suc, List, [], Option, Some, None, get_or}
+use Rattle.std.specs.Prelude.{ℕ, List, [], Option, Some, None}
+use Rattle.std.specs.List.{fold}
 use Rattle.laws.specs.Flat.{Head, own, under, Run, push}
 use Rattle.reader.specs.declared.due.Run as code
 
@@ -8,11 +9,10 @@ abbrev pub head_is : Option ℕ → Head
 head_is None = own
 head_is (Some c) = under c
 
--- a run with nothing left
-abbrev pub none : code.Run
-none = record { left = 0; code = None }
+-- a run put on those
+abbrev pub put_run : List Run → code.Run → List Run
+put_run t r = push r.left (head_is r.code) t
 
 -- the runs that are kept, the last on top
-unfoldable pub kept_is : List code.Run → (kept : ℕ) → List Run
-kept_is rs zero = []
-kept_is rs (suc n) = push (get_or rs n none).left (head_is (get_or rs n none).code) (kept_is rs n)
+abbrev pub kept_is : List code.Run → List Run
+kept_is rs = fold put_run [] rs

@@ -1,49 +1,44 @@
 // What is due in filling: a stack of runs of values, the one on top beside it. A run that is used up is not kept, so there are never
 // more runs than a value has levels.
-ghost use Rattle.std.specs.Prelude.{◌≡◌, ◌≤◌, length};
-ghost use Rattle.standard.specs.Outcomes.{level_most};
+ghost use Rattle.std.specs.Prelude.{◌≡◌, [], length};
+ghost use Rattle.arrayvec.specs.ArrayVec.{array_vec_len};
 ghost use Rattle.reader.specs.Runs.{kept_is};
 
+use arrayvec::ArrayVec;
 use standard::limit;
 
 // So many values, which all stand behind that code, as the elements of an array, or each begin with their own, as the children of a
 // list.
-#[derive(Clone, Copy)]
+#[derive(Clone, Copy, Default)]
 pub struct Run {
     pub left: u64,
     pub code: Option<u8>,
 }
 
-// The runs below the one on top, the last of them next. The room is fixed: an array, and `kept` says how many of it there are.
-#[derive(Clone, Copy)]
+// The runs below the one on top, the last of them next.
+#[derive(Drop)]
 pub struct Below {
-    runs: [Run; limit::MOST],
-    kept: usize,
-    ghost full: { length (kept_is runs kept) ≡ kept },
-    ghost few: { kept ≤ level_most },
+    runs: ArrayVec<Run, { limit::MOST }>,
+    ghost full: { length (kept_is runs.items) ≡ array_vec_len runs },
 }
 
 impl Below {
-    ghost use Rattle.std.specs.Prelude.{◌-◌, ◌<◌, []};
+    ghost use Rattle.std.specs.Prelude.{◌-◌, ◌<◌, ◌≤◌};
+    ghost use Rattle.standard.specs.Outcomes.{level_most};
     ghost use Rattle.laws.specs.Flat.{push};
     ghost use Rattle.reader.specs.Runs.{head_is};
     ghost use Rattle.reader.specs.Filling.{below_is, due_is};
 
-    #[tactic(auto, unfolding(crate::specs::Runs::kept_is))]
     pub fn none() -> Below
         ensures { below_is result ≡ [] }
     {
         Below {
-            runs: [Run {
-                left: 0,
-                code: None,
-            }; limit::MOST],
-            kept: 0,
+            runs: ArrayVec::new(),
         }
     }
 
     // A run that has a value: the one on top, or where that is used up, the last that is kept.
-    #[tactic(auto, using(crate::proofs::Runs::some_kept, crate::proofs::Runs::popped, crate::proofs::Runs::still_full, crate::proofs::Runs::last_some))]
+    #[tactic(auto, using(crate::proofs::Runs::some_kept, crate::proofs::Runs::rest_full, crate::proofs::Runs::last_left, crate::proofs::Runs::popped))]
     pub fn next_run(&mut self, top: Run) -> Run
         requires { 1 ≤ length (due_is top self.old) }
         ensures { (1 ≤ result.left) × (due_is result self.new ≡ due_is top self.old) }
@@ -51,8 +46,7 @@ impl Below {
         if 0 < top.left {
             return top;
         }
-        self.kept -= 1;
-        self.runs[self.kept]
+        self.runs.pop().unwrap()
     }
 
     // What is on top once the first value of that run is read: its children, if it has any, and then the others.
@@ -69,8 +63,7 @@ impl Below {
             return rest;
         }
         if 0 < rest.left {
-            self.runs[self.kept] = rest;
-            self.kept += 1;
+            self.runs.push(rest);
         }
         children
     }
