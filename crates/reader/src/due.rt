@@ -29,7 +29,7 @@ impl Below {
     ghost use Rattle.reader.specs.Runs.{head_is};
     ghost use Rattle.reader.specs.Filling.{below_is, due_is};
 
-    pub fn none() -> Below
+    pub(crate) fn none() -> Below
         ensures { below_is result ≡ [] }
     {
         Below {
@@ -39,7 +39,7 @@ impl Below {
 
     // A run that has a value: the one on top, or where that is used up, the last that is kept.
     #[tactic(auto, using(crate::proofs::Runs::some_kept, crate::proofs::Runs::rest_full, crate::proofs::Runs::last_left, crate::proofs::Runs::popped))]
-    pub fn next_run(&mut self, top: Run) -> Run
+    pub(crate) fn next_run(&mut self, top: Run) -> Run
         requires { 1 ≤ length (due_is top self.old) }
         ensures { (1 ≤ result.left) × (due_is result self.new ≡ due_is top self.old) }
     {
@@ -51,7 +51,7 @@ impl Below {
 
     // What is on top once the first value of that run is read: its children, if it has any, and then the others.
     #[tactic(auto, unfolding(laws::specs::Flat::push), using(crate::proofs::Runs::kept_more, crate::proofs::Runs::more_full, crate::proofs::Runs::push_none))]
-    pub fn after_row(&mut self, top: Run, children: Run) -> Run
+    pub(crate) fn after_row(&mut self, top: Run, children: Run) -> Run
         requires { (1 ≤ top.left) × (length (below_is self.old) < level_most) }
         ensures { due_is result self.new ≡ push children.left (head_is children.code) (push (top.left - 1) (head_is top.code) (below_is self.old)) }
     {

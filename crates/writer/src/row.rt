@@ -22,7 +22,7 @@ pub struct Table<'a> {
 
 impl<'a> Table<'a> {
     // The two words of a row, its kind and its number, where it has both.
-    pub fn row(&self, row: usize) -> Option<(u64, u64)>
+    pub(crate) fn row(&self, row: usize) -> Option<(u64, u64)>
         requires { 2 * row ≤ length self.now.words.now }
         ensures { Front (drop (2 * row) self.now.words.now) result }
     {
