@@ -5,9 +5,9 @@ use mathlib.Core.List.{List}
 use Rattle.standard.specs.Answer.{Answer}
 use Rattle.standard.specs.Outcomes as outcome
 use Rattle.std.specs.Prelude.{Option, Result}
-use Rattle.std.specs.declared.ops.Range.{Range}
 use Rattle.standard.specs.declared.refusal.Refusal.{Refusal}
 use Rattle.reader.specs.InCode.{stepped_is}
+use Rattle.reader.specs.declared.walker.Span.{Span}
 use Rattle.export.specs.Boundary.{Sizing, sizing, writing, Measuring, measuring, reading, length_in, Stepping, stepping}
 
 -- a is the answer in hand, t what is told of it
@@ -32,5 +32,5 @@ step_told k a t e h = ap stepping (sym e) ∙ h
 told_at : (s : outcome.Stepping) (t : Sizing) → sizing (length_in s.answer) ≡ t → stepping s ≡ record { answer = t; at = s.at }
 told_at s t h = ap {B = Stepping} (λ a. record { answer = a; at = s.at }) h
 
-pub found_told : (i : ℕ) (m x : Result (Option (Range ℕ)) Refusal) (t : Sizing) → m ≡ x → sizing (length_in (stepped_is i x).answer) ≡ t → stepping (stepped_is i m) ≡ record { answer = t; at = (stepped_is i m).at }
+pub found_told : (i : ℕ) (m x : Result (Option Span) Refusal) (t : Sizing) → m ≡ x → sizing (length_in (stepped_is i x).answer) ≡ t → stepping (stepped_is i m) ≡ record { answer = t; at = (stepped_is i m).at }
 found_told i m x t f h = told_at (stepped_is i m) t (ap (λ r. sizing (length_in (stepped_is i r).answer)) f ∙ h)

@@ -13,9 +13,9 @@ ghost use Rattle.writer.specs.InCode.{written_is};
 ghost use Rattle.reader.specs.InCode.{measured_is, stepped_is};
 ghost use Rattle.export.specs.Boundary.{sizing, writing, measuring, reading, stepping};
 
+use reader::walker::Span;
 use reader::{Extent, walker};
 use standard::refusal::Refusal;
-use std::ops::Range;
 
 // Stores a length or the place of a refusal, and says which it is: 0, or the number.
 // C lends each number by a pointer of its own.
@@ -63,7 +63,7 @@ fn tell_extent(
 
 // The same of a step of the walker: its length. Behind a value the caller's place is moved.
 fn tell_step(
-    found: Result<Option<Range<usize>>, Refusal>,
+    found: Result<Option<Span>, Refusal>,
     at: &mut u64,
     place: &mut u64,
     length: &mut u64,

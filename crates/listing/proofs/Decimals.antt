@@ -50,12 +50,18 @@ one_digit d = by_test (ltb d 10)
     by_test false = refl
 
 -- a byte takes two digits in hex
-pub digits_hex : (k n : ℕ) → n < 256 → IsDigitCount 16 2 n k → last_digits 16 k n ≡ hex n
-unfolding hex
-digits_hex zero n h f = absurd (omega (arith, f.0))
-digits_hex (suc zero) n h f = absurd (omega (arith, f.0))
-digits_hex (suc (suc zero)) n h f = let i : n / 16 < 16 = omega arith in rw (one_digit (n / 16 % 16), one_digit (n % 16), mod-eq_of_lt i)
-digits_hex (suc (suc (suc k))) n h f =
+pub hex_count : (k n : ℕ) → n < 256 → IsDigitCount 16 2 n k → k ≡ 2
+hex_count zero n h f = absurd (omega (arith, f.0))
+hex_count (suc zero) n h f = absurd (omega (arith, f.0))
+hex_count (suc (suc zero)) n h f = refl
+hex_count (suc (suc (suc k))) n h f =
     let g : suc (suc (suc k)) - 1 ≡ suc (suc k) = omega arith in
     let j : 16 * (16 * 16 ^ k) ≤ n = rw (g, pow-succ', pow-succ') at (f.2 (omega arith)) in
     absurd (omega (arith, one-le-pow k 16 (omega arith)))
+
+-- and these
+pub digits_hex : (k n : ℕ) → n < 256 → IsDigitCount 16 2 n k → last_digits 16 k n ≡ hex n
+unfolding hex
+digits_hex k n h f =
+    let i : n / 16 < 16 = omega arith in
+    rw (hex_count k n h f, one_digit (n / 16 % 16), one_digit (n % 16), mod-eq_of_lt i)

@@ -1,8 +1,9 @@
 -- Filling, turn by turn: what is left from a place on comes to what was due at the start.
 use Rattle.std.specs.Prelude.{ℕ, zero, suc, ◌+◌, ◌*◌, ◌-◌, ◌≤◌, ◌<◌, ◌≡◌, refl, List, [], ◌∷◌, ◌++◌, Bool, true, false, None, ltb, length, take, drop, set}
-use Rattle.std.proofs.Common.{sym, ap, ◌∙◌, arith, ltb-true, length-append, length-drop, length-set, length-take-le, drop-drop, append_assoc}
-use borrow.Rule.Slice.PartMut.{put_mid}
-use lib.Seq.{sets, length-sets, sets-eq}
+use Rattle.std.proofs.Common.{sym, ap, ◌∙◌, arith, ltb-true, length-append, length-drop, length-set, length-take-le, drop-cons}
+use Rattle.std.proofs.lemmas.List.{drop_all}
+use lib.Seq.{sets, length-sets}
+use lib.ListN.{get_or}
 use Rattle.standard.specs.Answer.{Answer, got, refuse, Place, at, ◌>>=◌, need}
 use Rattle.standard.specs.Tree.{rows, text}
 use Rattle.standard.specs.Read.{front}
@@ -88,11 +89,15 @@ rows_step l k a b rs =
     let f : 2 * (k + 1) ≡ suc (suc (2 * k)) = omega arith in
     rw (e, f)
 
--- what is copied into a part is stored from its front on
-pub stored : (l ys zs : List ℕ) (j : ℕ) → j + length ys ≤ length l → zs ≡ ys → put_mid j (j + length ys - j) l zs ≡ sets l j ys
-stored l ys zs j g q =
-    let f : j + length ys - j ≡ length ys = omega arith in
-    rw (q, f, sets-eq ys l j g, drop-drop (length ys) j l) (sym (append_assoc (take j l) ys (drop (j + length ys) l)))
+-- letters that are stored one by one
+pub goes_on : (l t : List ℕ) (i k : ℕ) → k < length t → sets (set l (i + k) (get_or t k 0)) (i + (k + 1)) (drop (k + 1) t) ≡ sets l (i + k) (drop k t)
+goes_on l t i k h =
+    let a : i + (k + 1) ≡ suc (i + k) = omega arith in
+    let b : k + 1 ≡ suc k = omega arith in
+    rw (a, b, drop-cons t k 0 h)
+
+pub ends : (l t : List ℕ) (i k : ℕ) → length t ≤ k → l ≡ sets l (i + k) (drop k t)
+ends l t i k h = rw (drop_all k t h)
 
 pub begin : (bytes words letters : List ℕ) (n : ℕ) (d : Below) → below_is d ≡ [] → Fillable bytes words letters n →
     Going bytes n (over (rows_in (front level_most bytes)) words) (over (text_in (front level_most bytes)) letters) words letters (record { left = 1; code = None }) d 0 0 0

@@ -12,7 +12,7 @@ use lib.ListN.{length, drop}
 use Rattle.standard.specs.Answer.{Answer, got, refuse, Place, at, byte, ◌>>=◌, ◌>>◌, need, too_deep, element_unfit, input_short, code_unknown, size_amiss}
 use Rattle.standard.specs.Tree.{Tree, node, Trees, tall, tall*, text, text*}
 use Rattle.standard.specs.Codes as codes
-use Rattle.standard.specs.Codes.{Scalar, Layout, unknown, described, scalar, compound, array, is_code, element, entry_of, layout_of, kind_of}
+use Rattle.standard.specs.Codes.{Scalar, Layout, unknown, described, scalar, sized, compound, array, is_code, element, entry_of, layout_of, kind_of}
 use Rattle.standard.specs.Kinds.{paired, named}
 use Rattle.standard.specs.Read.{leaf, many, done, fields, held, items, inside, behind, payload}
 use Rattle.laws.specs.Answers.{Holds, yes', weaken}
@@ -71,6 +71,11 @@ compound_of zero c p k w r h e f = absurd (omega arith)
 compound_of (suc l) c p k w r h e f =
     let d : suc l - 1 ≡ l = omega arith in
     rw (d, e, f)
+
+pub text_of : (l c p k w : ℕ) (r : List ℕ) → 0 < l → kind_of c ≡ k → layout_of c ≡ scalar (sized w) → measured (length r) (payload l c p r) ≡ measured (length r) (leaf (sized w) k p r)
+unfolding payload behind
+text_of zero c p k w r h e f = absurd (omega arith)
+text_of (suc l) c p k w r h e f = rw (e, f)
 
 module _ (l k p : ℕ) where
   pub scalar_is : (n : ℕ) (r : List ℕ) (s : Scalar) → measured n (behind (below l) l k p r (scalar s)) ≡ measured n (leaf s k p r)

@@ -1,7 +1,6 @@
 -- A step at a place of the bytes, from what measuring says of the bytes that are left there.
 use Rattle.std.specs.Prelude.{ℕ, ◌+◌, ◌-◌, ◌≤◌, ◌<◌, ◌≡◌, refl, List, [], ◌∷◌, Some, Result, Ok, length, take, drop}
 use Rattle.std.specs.Borrow.{Bor}
-use Rattle.std.specs.declared.ops.Range.{Range}
 use Rattle.std.proofs.Common.{sym, ap, subst, ◌∙◌, arith, length-drop, length-take-le}
 use Rattle.standard.specs.Answer.{Answer, got, refuse, ◌>>=◌}
 use Rattle.standard.specs.Facts.{if_case}
@@ -13,6 +12,7 @@ use Rattle.laws.specs.Answers.{Holds, yes', no', out}
 use Rattle.reader.specs.InCode.{measured_is, stepped_is}
 use Rattle.reader.specs.Walking.{Part, step_of, NextOf}
 use Rattle.reader.specs.declared.measuring.Extent as code
+use Rattle.reader.specs.declared.walker.Span.{Span}
 use Rattle.reader.specs.declared.walker.Walker.{Walker}
 use Rattle.reader.proofs.Rooms.{rest}
 
@@ -62,7 +62,7 @@ step_placed l i r =
     if_case (λ s. Placed (length r) i s.answer s.at) (in_force l) (step_in l i (drop i r)) (stepped i outside) (λ t. left_inside l i (length r) (drop i r) (λ h. omega (arith, length-drop i r))) (λ t. tt)
 
 -- what a walker makes of the value that the step at its place finds
-module _ (w : Walker) (p : Range ℕ) (e : stepped_is w.at (Ok (Some p)) ≡ step_of w) where
+module _ (w : Walker) (p : Span) (e : stepped_is w.at (Ok (Some p)) ≡ step_of w) where
   pub value_placed : (p.start ≡ w.at) × (p.end ≡ w.at + (p.end - p.start)) × (w.at + (p.end - p.start) ≤ length w.bytes.now)
   value_placed = subst (λ (s : Stepping). Placed (length w.bytes.now) w.at s.answer s.at) (sym e) (step_placed w.limit w.at w.bytes.now)
 

@@ -3,7 +3,6 @@
 use Rattle.std.specs.Prelude.{ℕ, suc, ◌+◌, ◌-◌, ◌≡◌, refl, List, [], ◌∷◌, ◌++◌, Option, Some, None, Result, Ok, Err, T, length, drop}
 use Rattle.std.specs.Borrow.{Bor, MutBor}
 use Rattle.std.specs.Iterator.{MakesProgress, endless}
-use Rattle.std.specs.declared.ops.Range.{Range}
 use Rattle.std.proofs.Common.{sym, ap, subst, ◌∙◌, arith, append_assoc, length-append}
 use lib.Seq.{take-append_seam, drop-append_seam}
 use seplogic.Ra.Ura.{Ura}
@@ -27,7 +26,9 @@ use Rattle.standard.specs.Facts.{if_case, same_refusal}
 use Rattle.standard.specs.declared.refusal.Refusal.{Refusal}
 use Rattle.reader.specs.InCode.{stepped_is}
 use Rattle.reader.specs.Walking.{fresh, step_of, Next, next_is, Handed, NextOf}
+use Rattle.reader.specs.declared.walker.Span.{Span}
 use Rattle.reader.specs.declared.walker.Walker.{Walker}
+use Rattle.reader.specs.contracts.walker.Span.len as span_length
 use Rattle.reader.specs.contracts.walker.step_within as step_within
 use Rattle.reader.specs.contracts.walker.step_at as step_at
 use Rattle.reader.specs.contracts.walker.Walker.within as within
@@ -38,7 +39,7 @@ use Rattle.reader.specs.contracts.walker.WalkerIterator.next as next
 
 -- what a step of the code answers
 abbrev pub Answered : Type 0
-Answered = Result (Option (Range ℕ)) Refusal
+Answered = Result (Option Span) Refusal
 
 -- the three answers are apart
 ends_not : {A : Type 0} {i n : ℕ} → end ≡ part i n → A
@@ -79,6 +80,11 @@ step_within_promise 𝓛 κs mem run l b i r = refl
 pub step_promise : {M : Type 1} {𝓤 : Ura M} (𝓛 : Logic 𝓤) (κs : Lfts 1) (mem : Memory → SProp 𝓤) (run : Routine → Fun 𝓤) (b : Bor (List ℕ)) (i : ℕ) (r : Answered)
     → step_at.ensures-1 𝓛 κs mem run b i (record { entry = b; exit = b }) (record { entry = i; exit = i }) r ≡ fact 𝓤 (StepPromise level_default b.now i r)
 step_promise 𝓛 κs mem run b i r = refl
+
+-- the contract of a span's `len` is this equation, and nothing else
+pub length_promise : {M : Type 1} {𝓤 : Ura M} (𝓛 : Logic 𝓤) (κs : Lfts 0) (mem : Memory → SProp 𝓤) (run : Routine → Fun 𝓤) (s : Span) (r : ℕ)
+    → span_length.ensures-1 𝓛 κs mem run s (record { entry = s; exit = s }) r ≡ fact 𝓤 (r ≡ s.end - s.start)
+length_promise 𝓛 κs mem run s r = refl
 
 -- no second outcome satisfies the promise of a step
 pub one_stepped : (l : ℕ) (bytes : List ℕ) (i : ℕ) (r s : Answered) → StepPromise l bytes i r → StepPromise l bytes i s → r ≡ s

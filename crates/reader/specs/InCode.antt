@@ -1,6 +1,5 @@
 -- What the reader's own types say, in the terms of the definitions.
 use Rattle.std.specs.Prelude.{ℕ, ◌+◌, ◌-◌, ◌≡◌, List, Option, Some, None, Result, Ok, Err, take, drop}
-use Rattle.std.specs.declared.ops.Range.{Range}
 use Rattle.standard.specs.Answer.{Answer, got, refuse, Place, at, byte, offset, payload_bad}
 use Rattle.standard.specs.InCode.{reason_is, refusal_is}
 use Rattle.standard.specs.Outcomes as outcome
@@ -9,6 +8,7 @@ use Rattle.reader.specs.declared.measuring.Extent.{Extent}
 use Rattle.reader.specs.declared.measuring.Stop.{Stop}
 use Rattle.reader.specs.declared.measuring.Stop.TheVariants.{Refused, Faulty}
 use Rattle.reader.specs.declared.measuring.Body.{Body}
+use Rattle.reader.specs.declared.walker.Span.{Span}
 
 abbrev pub extent_is : Extent → outcome.Extent
 extent_is e = record { length = e.length; rows = e.rows; text = e.text }
@@ -53,7 +53,7 @@ body_is w r (Ok b) = got (b.count, body_in w b.end r, drop b.end r)
 body_is w r (Err s) = stop_is s
 
 -- what a step of the walker finds at a place of the bytes, and the place behind it: where it finds no value, that stays
-abbrev pub stepped_is : (place : ℕ) → Result (Option (Range ℕ)) Refusal → outcome.Stepping
+abbrev pub stepped_is : (place : ℕ) → Result (Option Span) Refusal → outcome.Stepping
 stepped_is i (Ok None) = record { answer = outcome.end; at = i }
 stepped_is i (Ok (Some r)) = record { answer = outcome.part r.start (r.end - r.start); at = r.end }
 stepped_is i (Err f) = record { answer = outcome.refused (reason_is f.reason) (at f.place); at = i }

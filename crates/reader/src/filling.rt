@@ -3,7 +3,7 @@
 // There is no recursion into values: what is due is a stack of runs of them (src/due.rt).
 ghost use Rattle.std.specs.Prelude.{◌≡◌, ◌+◌, ◌^◌, ◌≤◌, ◌<◌, ◌||◌, T, eqb, length, drop};
 ghost use Rattle.std.proofs.lemmas.List.Edits.{sets};
-ghost use Rattle.standard.specs.Codes.{kind_of, layout_of, element, scalar, compound, array, whole, small, sized};
+ghost use Rattle.standard.specs.Codes.{kind_of, layout_of, element, scalar, compound, array, constant, whole, small, raw, sized};
 ghost use Rattle.standard.specs.Kinds.{named};
 ghost use Rattle.standard.specs.Grammar.{extend};
 ghost use Rattle.standard.specs.Read.{front};
@@ -16,7 +16,7 @@ ghost use Rattle.reader.specs.Filling.{Lands, leaf_row, parent_row, RowFound, Fi
 
 use crate::due::{Below, Run};
 use crate::number::{narrow_at, number_at};
-use standard::format_code::{Compound8, Compound32, Layout};
+use standard::format_code::{Compound8, Compound32};
 use standard::kind::Kind;
 use standard::{format_code, kind};
 
@@ -162,6 +162,23 @@ fn small_row(here: Cursor, kind: Kind, width: usize) -> Row
     leaf(kind, extended(here.bytes[here.at], width), here.at + 1, 0)
 }
 
+// The row of a number that its code tells.
+#[tactic(auto, using(crate::proofs::RowSteps::constant_row))]
+fn constant_row(here: Cursor, kind: Kind, number: u64) -> Row
+    ensures { RowFound here.entry.bytes.now (behind_step (kind_is kind) (drop here.entry.at here.entry.bytes.now) (scalar (constant number))) result }
+{
+    leaf(kind, number, here.at, 0)
+}
+
+// The row of so many bytes of text, with no length before them.
+#[tactic(auto, using(crate::proofs::RowSteps::raw_row))]
+fn raw_row(here: Cursor, kind: Kind, width: usize) -> Row
+    requires { Lands (behind_step (kind_is kind) (drop here.at here.bytes.now) (scalar (raw width))) }
+    ensures { RowFound here.entry.bytes.now (behind_step (kind_is kind) (drop here.entry.at here.entry.bytes.now) (scalar (raw width))) result }
+{
+    leaf(kind, 0, here.at, width)
+}
+
 // The row of a text, behind its code.
 #[tactic(auto, using(crate::proofs::RowSteps::first_fits, crate::proofs::RowSteps::sized_row))]
 fn sized_row(here: Cursor, kind: Kind, width: usize) -> Row
@@ -182,30 +199,9 @@ fn compound_row(here: Cursor, kind: Kind, width: usize) -> Row
     parent(kind, count, here.at + width + width)
 }
 
-// The row of what stands behind a code, by its entry.
-#[tactic(auto, unfolding(crate::specs::Entries::sure), using(crate::proofs::RowSteps::entered, crate::proofs::RowSteps::entry_there, crate::proofs::RowSteps::constant_row, crate::proofs::RowSteps::raw_row, crate::proofs::RowSteps::described_row, standard::specs::Facts::and_left, standard::specs::Facts::and_right))]
-fn entry_row(here: Cursor, code: u8) -> Row
-    requires { Lands (behind_step (kind_of code) (drop here.at here.bytes.now) (layout_of code)) }
-    ensures { RowFound here.entry.bytes.now (behind_step (kind_of code) (drop here.entry.at here.entry.bytes.now) (layout_of code)) result }
-{
-    let Some(entry) = format_code::entry_of(code) else {
-        unreachable!()
-    };
-    let kind = entry.kind;
-    match entry.layout {
-        Layout::Described => parent(kind, 2, here.at),
-        Layout::Constant(number) => leaf(kind, number, here.at, 0),
-        Layout::Whole(width) => whole_row(here, kind, width),
-        Layout::Small(width) => small_row(here, kind, width),
-        Layout::Raw(width) => leaf(kind, 0, here.at, width),
-        Layout::Sized(width) => sized_row(here, kind, width),
-        Layout::Compound(width) => compound_row(here, kind, width),
-        Layout::Array(width) => array_row(here, kind, width),
-    }
-}
-
-// The row of what stands behind a code. The usual codes go their own way at once: looking the entry up takes as long again.
-#[tactic(auto, unfolding(standard::specs::Codes::entry_of, standard::specs::Codes::codes, standard::specs::Choose::lookup), using(crate::proofs::RowSteps::constant_row, crate::proofs::RowSteps::described_row))]
+// The row of what stands behind a code. Each code goes its own way at once, with its kind: looking its entry up takes as long again, and
+// so does the number of a kind that is not known here.
+#[tactic(auto, unfolding(standard::specs::Codes::entry_of, standard::specs::Codes::codes, standard::specs::Choose::lookup), using(crate::proofs::RowSteps::described_row, crate::proofs::RowSteps::entry_there))]
 fn row_behind(here: Cursor, code: u8) -> Row
     requires { Lands (behind_step (kind_of code) (drop here.at here.bytes.now) (layout_of code)) }
     ensures { RowFound here.entry.bytes.now (behind_step (kind_of code) (drop here.entry.at here.entry.bytes.now) (layout_of code)) result }
@@ -213,29 +209,45 @@ fn row_behind(here: Cursor, code: u8) -> Row
     match code {
         format_code::DESCRIBED => parent(Kind::Described, 2, here.at),
         format_code::NULL => whole_row(here, Kind::Null, 0),
-        format_code::TRUE => leaf(Kind::Boolean, 1, here.at, 0),
-        format_code::FALSE => leaf(Kind::Boolean, 0, here.at, 0),
-        format_code::UINT_0 => leaf(Kind::Uint, 0, here.at, 0),
-        format_code::ULONG_0 => leaf(Kind::Ulong, 0, here.at, 0),
-        format_code::LIST_0 => leaf(Kind::List, 0, here.at, 0),
+        format_code::TRUE => constant_row(here, Kind::Boolean, 1),
+        format_code::FALSE => constant_row(here, Kind::Boolean, 0),
+        format_code::UINT_0 => constant_row(here, Kind::Uint, 0),
+        format_code::ULONG_0 => constant_row(here, Kind::Ulong, 0),
+        format_code::LIST_0 => constant_row(here, Kind::List, 0),
+        format_code::UBYTE => whole_row(here, Kind::Ubyte, 1),
+        format_code::BYTE => whole_row(here, Kind::Byte, 1),
         format_code::SMALL_UINT => whole_row(here, Kind::Uint, 1),
         format_code::SMALL_ULONG => whole_row(here, Kind::Ulong, 1),
         format_code::SMALL_INT => small_row(here, Kind::Int, 4),
         format_code::SMALL_LONG => small_row(here, Kind::Long, 8),
+        format_code::BOOLEAN => whole_row(here, Kind::Boolean, 1),
+        format_code::USHORT => whole_row(here, Kind::Ushort, 2),
+        format_code::SHORT => whole_row(here, Kind::Short, 2),
         format_code::UINT => whole_row(here, Kind::Uint, 4),
         format_code::INT => whole_row(here, Kind::Int, 4),
+        format_code::FLOAT => whole_row(here, Kind::Float, 4),
+        format_code::CHAR => whole_row(here, Kind::Char, 4),
+        format_code::DECIMAL_32 => whole_row(here, Kind::Decimal32, 4),
         format_code::ULONG => whole_row(here, Kind::Ulong, 8),
         format_code::LONG => whole_row(here, Kind::Long, 8),
         format_code::DOUBLE => whole_row(here, Kind::Double, 8),
         format_code::TIMESTAMP => whole_row(here, Kind::Timestamp, 8),
+        format_code::DECIMAL_64 => whole_row(here, Kind::Decimal64, 8),
+        format_code::DECIMAL_128 => raw_row(here, Kind::Decimal128, 16),
+        format_code::UUID => raw_row(here, Kind::Uuid, 16),
         format_code::BINARY_8 => sized_row(here, Kind::Binary, 1),
         format_code::STRING_8 => sized_row(here, Kind::String, 1),
         format_code::SYMBOL_8 => sized_row(here, Kind::Symbol, 1),
+        format_code::BINARY_32 => sized_row(here, Kind::Binary, 4),
+        format_code::STRING_32 => sized_row(here, Kind::String, 4),
+        format_code::SYMBOL_32 => sized_row(here, Kind::Symbol, 4),
         format_code::LIST_8 => compound_row(here, Kind::List, Compound8::COUNT_WIDTH),
         format_code::MAP_8 => compound_row(here, Kind::Map, Compound8::COUNT_WIDTH),
         format_code::LIST_32 => compound_row(here, Kind::List, Compound32::COUNT_WIDTH),
         format_code::MAP_32 => compound_row(here, Kind::Map, Compound32::COUNT_WIDTH),
-        _ => entry_row(here, code),
+        format_code::ARRAY_8 => array_row(here, Kind::Array, Compound8::COUNT_WIDTH),
+        format_code::ARRAY_32 => array_row(here, Kind::Array, Compound32::COUNT_WIDTH),
+        _ => unreachable!(),
     }
 }
 
@@ -253,14 +265,14 @@ fn row_at(here: Cursor, code: Option<u8>) -> Row
     row_behind(Cursor { bytes, at }, code)
 }
 
-// Copies the text of a row. Most rows have none, and make no call for it.
-#[tactic(auto, using(crate::proofs::Filled::stored))]
+// Copies the text of a row.
 fn put_text(text: &mut [u8], at: usize, letters: &[u8])
     requires { at + length letters.now ≤ length text.old }
     ensures { text.new ≡ sets text.old at letters.now }
 {
-    if !letters.is_empty() {
-        text[at..at + letters.len()].copy_from_slice(letters);
+    // by hand: `copy_from_slice` of a length known only as the program runs is a call of memmove for each text, and needs it from outside
+    for k in 0..letters.len() {
+        text[at + k] = letters[k];
     }
 }
 

@@ -4,7 +4,7 @@
 // They call each other with fewer levels left; values that stand side by side are taken in one loop. A room is a part of the
 // caller's bytes, and nothing beyond it is looked at. The place of a value is where its code stands; an element's counts from the
 // code before it, as if that stood right in front of it.
-ghost use Rattle.std.specs.Prelude.{◌≡◌, true, false, ℕ, ◌+◌, ◌^◌, ◌≤◌, ◌<◌, T, length, take, drop, IfOk, MatchOption};
+ghost use Rattle.std.specs.Prelude.{◌≡◌, true, false, ℕ, ◌+◌, ◌^◌, ◌≤◌, ◌<◌, T, length, take, drop, IfOk, IfSome, MatchOption};
 ghost use Rattle.standard.specs.Bytes.{unbe};
 ghost use Rattle.standard.specs.Codes as codes;
 ghost use Rattle.standard.specs.Codes.{layout_of, kind_of, entry_of};
@@ -13,7 +13,7 @@ ghost use Rattle.standard.specs.Read as read;
 ghost use Rattle.standard.specs.Outcomes as outcome;
 ghost use Rattle.standard.specs.Outcomes.{level_default};
 ghost use Rattle.standard.specs.InCode.{kind_is, entry_is};
-ghost use Rattle.reader.specs.Entries.{narrow, sure, plain_below, plain_width};
+ghost use Rattle.reader.specs.Entries.{narrow, judged, sure, plain_below, plain_width};
 ghost use Rattle.reader.specs.InCode.{measured_is, extent_is, Settled, found_is, counted_is, body_is};
 ghost use Rattle.reader.specs.Measuring.{block, measured, several, contents, above, closed, below, reads, reach, code_at, element_of, is_compound, Taking, Plain};
 ghost use Rattle.reader.specs.declared.measuring.Stop.TheVariants.{Refused};
@@ -76,9 +76,9 @@ struct Body {
     end: usize,
 }
 
-// A list's or a map's kind, and the width of its size and its count.
+// What a code of a list, a map or a text says: the kind, and the width of each number that stands behind the code.
 #[derive(Clone, Copy)]
-struct CompoundCode {
+struct Coded {
     kind: Kind,
     width: usize,
 }
@@ -305,7 +305,7 @@ fn code_at(
 
 // Plain are the codes of scalars of which nothing but the length has to be looked at, as of most values. Of the codes with that upper
 // half those are plain whose lower half is below this. It is computed, with no branch for each code: codes come in any order, and a
-// branch that was guessed wrong costs more than the rest of a turn.
+// branch that was guessed wrong costs more than the rest of a turn. The writer's table of this shape is of kinds, and has other numbers.
 fn plain_below(upper: u8) -> u8
     ensures { result ≡ plain_below upper }
 {
@@ -336,30 +336,85 @@ fn plain_width(code: u8) -> usize
     (1usize << upper) / 32
 }
 
-// A list or a map, by its code.
+// The width of the size and the count of a list or a map, by its code.
 #[tactic(auto, unfolding(standard::specs::Codes::entry_of, standard::specs::Codes::codes, standard::specs::Choose::lookup), using(crate::proofs::Entries::no_compound))]
-fn compound_of(code: u8) -> Option<CompoundCode>
-    ensures { MatchOption result (is_compound (layout_of code) ≡ false) (λ c. (kind_of code ≡ kind_is c.kind) × (layout_of code ≡ codes.compound c.width) × T (narrow c.width)) }
+fn compound_width(code: u8) -> Option<usize>
+    ensures { MatchOption result (is_compound (layout_of code) ≡ false) (λ w. (layout_of code ≡ codes.compound w) × T (narrow w)) }
 {
     match code {
-        format_code::LIST_8 => Some(CompoundCode {
-            kind: Kind::List,
-            width: format_code::Compound8::COUNT_WIDTH,
-        }),
-        format_code::MAP_8 => Some(CompoundCode {
-            kind: Kind::Map,
-            width: format_code::Compound8::COUNT_WIDTH,
-        }),
-        format_code::LIST_32 => Some(CompoundCode {
-            kind: Kind::List,
-            width: format_code::Compound32::COUNT_WIDTH,
-        }),
-        format_code::MAP_32 => Some(CompoundCode {
-            kind: Kind::Map,
-            width: format_code::Compound32::COUNT_WIDTH,
-        }),
+        format_code::LIST_8 => Some(format_code::Compound8::COUNT_WIDTH),
+        format_code::MAP_8 => Some(format_code::Compound8::COUNT_WIDTH),
+        format_code::LIST_32 => Some(format_code::Compound32::COUNT_WIDTH),
+        format_code::MAP_32 => Some(format_code::Compound32::COUNT_WIDTH),
         _ => None,
     }
+}
+
+// Its kind.
+#[tactic(auto, unfolding(standard::specs::Codes::entry_of, standard::specs::Codes::codes, standard::specs::Choose::lookup), using(crate::proofs::Entries::no_compound))]
+fn compound_kind(code: u8) -> Kind
+    requires { is_compound (layout_of code) ≡ true }
+    ensures { kind_of code ≡ kind_is result }
+{
+    match code {
+        format_code::LIST_8 => Kind::List,
+        format_code::MAP_8 => Kind::Map,
+        format_code::LIST_32 => Kind::List,
+        format_code::MAP_32 => Kind::Map,
+        _ => unreachable!(),
+    }
+}
+
+// A list or a map, by its code. Width and kind are asked for apart: together they would take a jump through a table, and apart they are
+// comparisons, which the processor guesses.
+fn compound_of(code: u8) -> Option<Coded>
+    ensures { MatchOption result (is_compound (layout_of code) ≡ false) (λ c. (kind_of code ≡ kind_is c.kind) × (layout_of code ≡ codes.compound c.width) × T (narrow c.width)) }
+{
+    let width = compound_width(code)?;
+    let kind = compound_kind(code);
+    Some(Coded { kind, width })
+}
+
+// The width of the length before a text, by its code; none for a code of anything else.
+#[tactic(auto, unfolding(standard::specs::Codes::entry_of, standard::specs::Codes::codes, standard::specs::Choose::lookup))]
+fn text_width(code: u8) -> Option<usize>
+    ensures { IfSome result (λ w. (layout_of code ≡ codes.scalar (codes.sized w)) × T (narrow w)) }
+{
+    match code {
+        format_code::BINARY_8 => Some(1),
+        format_code::STRING_8 => Some(1),
+        format_code::SYMBOL_8 => Some(1),
+        format_code::BINARY_32 => Some(4),
+        format_code::STRING_32 => Some(4),
+        format_code::SYMBOL_32 => Some(4),
+        _ => None,
+    }
+}
+
+// The kind of a text, by its code.
+#[tactic(auto, unfolding(standard::specs::Codes::entry_of, standard::specs::Codes::codes, standard::specs::Choose::lookup))]
+fn text_kind(code: u8) -> Option<Kind>
+    ensures { IfSome result (λ k. (kind_of code ≡ kind_is k) × (judged (kind_is k) ≡ false)) }
+{
+    match code {
+        format_code::BINARY_8 => Some(Kind::Binary),
+        format_code::BINARY_32 => Some(Kind::Binary),
+        format_code::STRING_8 => Some(Kind::String),
+        format_code::STRING_32 => Some(Kind::String),
+        format_code::SYMBOL_8 => Some(Kind::Symbol),
+        format_code::SYMBOL_32 => Some(Kind::Symbol),
+        _ => None,
+    }
+}
+
+// A text, by its code: as of a list or a map.
+#[tactic(auto, unfolding(crate::specs::Entries::sure))]
+fn text_of(code: u8) -> Option<Coded>
+    ensures { IfSome result (λ c. (kind_of code ≡ kind_is c.kind) × (layout_of code ≡ codes.scalar (codes.sized c.width)) × T (sure (kind_is c.kind) (codes.scalar (codes.sized c.width)))) }
+{
+    let width = text_width(code)?;
+    let kind = text_kind(code)?;
+    Some(Coded { kind, width })
 }
 
 // So many values, one after another, where so many levels are left.
@@ -404,7 +459,7 @@ fn many(
     })
 }
 
-// What stands behind a code. Lists and maps, of which there are many, do not wait for their entry. `levels` is a plain number: it is
+// What stands behind a code. Lists, maps and texts, of which there are many, do not wait for their entry. `levels` is a plain number: it is
 // counted down to 0, and 0 is asked for.
 #[cycle(array_behind_compound_inside_items_many_payload)]
 fn payload(room: Room, code: u8, levels: usize) -> Result<Extent, Stop>
@@ -413,6 +468,9 @@ fn payload(room: Room, code: u8, levels: usize) -> Result<Extent, Stop>
 {
     if let Some(found) = compound_of(code) {
         return compound(room, found, levels - 1);
+    }
+    if let Some(found) = text_of(code) {
+        return sized(room, found.width, found.kind);
     }
     behind(room, code, levels)
 }
@@ -440,7 +498,7 @@ fn behind(room: Room, code: u8, levels: usize) -> Result<Extent, Stop>
 
 // A list or a map, behind its code.
 #[cycle(array_behind_compound_inside_items_many_payload)]
-fn compound(room: Room, found: CompoundCode, levels: usize) -> Result<Extent, Stop>
+fn compound(room: Room, found: Coded, levels: usize) -> Result<Extent, Stop>
     requires { T (narrow found.width) }
     ensures { counted_is result ≡ measured (length room.entry.bytes.now) (read.behind (below levels) levels (kind_is found.kind) room.entry.place room.entry.bytes.now (codes.compound found.width)) }
 {

@@ -1,7 +1,7 @@
 // The walker: values that stand end to end, one after another (docs/FORMAT.md, 7).
 //
 // `step_within` does the work on a level limit, bytes and a place that the caller keeps. `Walker` keeps all three.
-ghost use Rattle.std.specs.Prelude.{◌≡◌};
+ghost use Rattle.std.specs.Prelude.{◌≡◌, ◌-◌};
 ghost use Rattle.std.specs.Iterator.{MakesProgress, endless};
 ghost use Rattle.standard.specs.Outcomes as outcome;
 ghost use Rattle.standard.specs.Outcomes.{level_default};
@@ -10,12 +10,27 @@ ghost use Rattle.reader.specs.Walking.{NextOf};
 
 use standard::limit;
 use standard::refusal::{Reason, Refusal};
-use std::ops::Range;
+
+/// Where a value stands in the bytes: from `start` up to `end`. Unlike a range of the library's it can be copied.
+#[derive(Clone, Copy, Debug, PartialEq, Eq)]
+pub struct Span {
+    pub start: usize,
+    pub end: usize,
+}
+
+impl Span {
+    /// How many bytes it has.
+    pub fn len(self) -> usize
+        ensures { result ≡ self.end - self.start }
+    {
+        self.end.saturating_sub(self.start)
+    }
+}
 
 // A step at a place of the bytes within a level limit: the part of the bytes that the value there is, or none at the end of them,
 // or beyond it. A limit that may not be named is refused even there. The place of a refusal counts from the place of the step.
 #[tactic(auto, using(laws::specs::Demand1::step_outside, laws::specs::Demand1::step_end))]
-pub fn step_within(limit: usize, bytes: &[u8], at: usize) -> Result<Option<Range<usize>>, Refusal>
+pub fn step_within(limit: usize, bytes: &[u8], at: usize) -> Result<Option<Span>, Refusal>
     ensures { stepped_is at result ≡ outcome.step limit bytes.now at }
 {
     if !limit::is_in_force(limit) {
@@ -28,11 +43,14 @@ pub fn step_within(limit: usize, bytes: &[u8], at: usize) -> Result<Option<Range
         return Ok(None);
     }
     let extent = crate::measure_within(limit, &bytes[at..])?;
-    Ok(Some(at..at + extent.length))
+    Ok(Some(Span {
+        start: at,
+        end: at + extent.length,
+    }))
 }
 
 // A step at a place of the bytes, within 16 levels. The form that names no limit: docs/PROMISES.md and C have both.
-pub fn step_at(bytes: &[u8], at: usize) -> Result<Option<Range<usize>>, Refusal>
+pub fn step_at(bytes: &[u8], at: usize) -> Result<Option<Span>, Refusal>
     ensures { stepped_is at result ≡ outcome.step level_default bytes.now at }
 {
     step_within(limit::DEFAULT, bytes, at)

@@ -19,7 +19,7 @@ use Rattle.standard.specs.Table
 use Rattle.standard.specs.Encode
 use Rattle.standard.specs.Outcomes
 use Rattle.standard.specs.Codes.{is_code}
-use Rattle.standard.specs.InCode.{reason_is, kind_is, Names, layout_is, entry_is, style_is, style_in}
+use Rattle.standard.specs.InCode.{reason_is, kind_is, Names, layout_is, entry_is, style_is}
 use Rattle.standard.specs.Facts.{same_kind, known}
 use Rattle.standard.specs.declared.refusal.Reason.{Reason}
 use Rattle.standard.specs.declared.kind.Kind.{Kind}
@@ -30,13 +30,16 @@ use Rattle.standard.specs.declared.format_code.Entry.{Entry}
 use Rattle.standard.specs.declared.kind.Short.{Short}
 use Rattle.standard.specs.declared.kind.Short.TheVariants.{Never, Flag, Unsigned, Signed}
 use Rattle.standard.specs.declared.kind.Style.{Style}
-use Rattle.standard.specs.declared.kind.Style.TheVariants.{Numbered, Blob, Lettered, Listed, Mapped, Arrayed, Describing}
+use Rattle.standard.specs.declared.kind.Style.TheVariants.{Foreign, Numbered, Blob, Lettered, Listed, Mapped, Arrayed, Describing}
 use Rattle.standard.specs.contracts.format_code.entry_of as entry_of
 use Rattle.standard.specs.contracts.kind.style_of as style_of
 use Rattle.standard.specs.contracts.kind.Kind.style as style
 use Rattle.standard.specs.contracts.kind.Kind.is_member as is_member_kind
 use Rattle.standard.specs.contracts.kind.Kind.is_fair as is_fair_kind
 use Rattle.standard.specs.contracts.kind.is_fair as is_fair
+use Rattle.standard.specs.contracts.kind.Style.is_kind as is_kind
+use Rattle.standard.specs.contracts.kind.KindTryFromU64.try_from as try_from
+use Rattle.standard.specs.contracts.kind.U64FromKind.from as from
 use Rattle.standard.specs.contracts.kind.Style.is_member as is_member
 use Rattle.standard.specs.contracts.kind.count_of_elements as count_of_elements
 use Rattle.standard.specs.contracts.kind.kind_of_elements as kind_of_elements
@@ -84,7 +87,7 @@ short_back (Kinds.unsigned z s) = Unsigned z s
 short_back (Kinds.signed s) = Signed s
 
 style_back : Kinds.Style → Style
-style_back Kinds.foreign = Describing
+style_back Kinds.foreign = Foreign
 style_back (Kinds.numbered s w) = Numbered (short_back s) w
 style_back (Kinds.blob w) = Blob w
 style_back (Kinds.lettered s) = Lettered s
@@ -95,6 +98,7 @@ style_back Kinds.describing = Describing
 
 style_told : (s : Style) → style_back (style_is s) ≡ s
 unfolding style_back short_back
+style_told Foreign = refl
 style_told (Numbered Never w) = refl
 style_told (Numbered (Flag y x) w) = refl
 style_told (Numbered (Unsigned z s) w) = refl
@@ -135,35 +139,11 @@ one_kind n (Ok k) (Err e) a b = absurd (false≢true (sym b ∙ ap (λ x. Kinds.
 one_kind n (Err e) (Ok k) a b = absurd (false≢true (sym a ∙ ap (λ x. Kinds.is_kind (Kinds.style_of x)) (sym b) ∙ known k))
 one_kind n (Err e) (Err f) a b = refl
 
-style_in_back : Kinds.Style → Option Style
-style_in_back Kinds.foreign = None
-style_in_back (Kinds.numbered s w) = Some (Numbered (short_back s) w)
-style_in_back (Kinds.blob w) = Some (Blob w)
-style_in_back (Kinds.lettered s) = Some (Lettered s)
-style_in_back (Kinds.listed e s) = Some (Listed e s)
-style_in_back (Kinds.mapped s) = Some (Mapped s)
-style_in_back (Kinds.arrayed s) = Some (Arrayed s)
-style_in_back Kinds.describing = Some Describing
-
-style_in_told : (s : Option Style) → style_in_back (style_in s) ≡ s
-unfolding style_in_back short_back
-style_in_told None = refl
-style_in_told (Some (Numbered Never w)) = refl
-style_in_told (Some (Numbered (Flag y x) w)) = refl
-style_in_told (Some (Numbered (Unsigned z s) w)) = refl
-style_in_told (Some (Numbered (Signed s) w)) = refl
-style_in_told (Some (Blob w)) = refl
-style_in_told (Some (Lettered s)) = refl
-style_in_told (Some (Listed e s)) = refl
-style_in_told (Some (Mapped s)) = refl
-style_in_told (Some (Arrayed s)) = refl
-style_in_told (Some Describing) = refl
-
-pub one_style : (k : ℕ) (r s : Option Style) → style_in r ≡ Kinds.style_of k → style_in s ≡ Kinds.style_of k → r ≡ s
-one_style k r s a b = sym (style_in_told r) ∙ ap style_in_back (a ∙ sym b) ∙ style_in_told s
+pub one_style : (k : ℕ) (r s : Style) → style_is r ≡ Kinds.style_of k → style_is s ≡ Kinds.style_of k → r ≡ s
+one_style k r s a b = sym (style_told r) ∙ ap style_back (a ∙ sym b) ∙ style_told s
 
 pub one_style_of_kind : (k : Kind) (r s : Style) → style_is r ≡ Kinds.style_of (kind_is k) → style_is s ≡ Kinds.style_of (kind_is k) → r ≡ s
-one_style_of_kind k r s a b = sym (style_told r) ∙ ap style_back (a ∙ sym b) ∙ style_told s
+one_style_of_kind k = one_style (kind_is k)
 
 -- The promise of each function is its equation, and nothing else
 
@@ -171,7 +151,13 @@ module _ {M : Type 1} {𝓤 : Ura M} (𝓛 : Logic 𝓤) (κs : Lfts 0) (mem : M
   pub entry_promise : (c : ℕ) (r : Option Entry) → entry_of.ensures-1 𝓛 κs mem run c (record { entry = c; exit = c }) r ≡ fact 𝓤 (entry_is c r ≡ Codes.entry_of c)
   entry_promise c r = refl
 
-  pub style_promise : (k : ℕ) (r : Option Style) → style_of.ensures-1 𝓛 κs mem run k (record { entry = k; exit = k }) r ≡ fact 𝓤 (style_in r ≡ Kinds.style_of k)
+  pub try_from_promise : (n : ℕ) (r : Result Kind UnknownKind) → try_from.ensures-1 𝓛 κs mem run n (record { entry = n; exit = n }) r ≡ fact 𝓤 (Names n r)
+  try_from_promise n r = refl
+
+  pub from_promise : (k : Kind) (n : ℕ) → from.ensures-1 𝓛 κs mem run k (record { entry = k; exit = k }) n ≡ fact 𝓤 (n ≡ kind_is k)
+  from_promise k n = refl
+
+  pub style_promise : (k : ℕ) (r : Style) → style_of.ensures-1 𝓛 κs mem run k (record { entry = k; exit = k }) r ≡ fact 𝓤 (style_is r ≡ Kinds.style_of k)
   style_promise k r = refl
 
   pub style_of_kind_promise : (k : Kind) (r : Style) → style.ensures-1 𝓛 κs mem run k (record { entry = k; exit = k }) r ≡ fact 𝓤 (style_is r ≡ Kinds.style_of (kind_is k))
@@ -185,6 +171,9 @@ module _ {M : Type 1} {𝓤 : Ura M} (𝓛 : Logic 𝓤) (κs : Lfts 0) (mem : M
 
   pub fair_promise : (k n : ℕ) (r : Bool) → is_fair.ensures-1 𝓛 κs mem run k n (record { entry = k; exit = k }) (record { entry = n; exit = n }) r ≡ fact 𝓤 (r ≡ Kinds.fair k n)
   fair_promise k n r = refl
+
+  pub kind_promise : (s : Style) (r : Bool) → is_kind.ensures-1 𝓛 κs mem run s (record { entry = s; exit = s }) r ≡ fact 𝓤 (r ≡ Kinds.is_kind (style_is s))
+  kind_promise s r = refl
 
   pub member_promise : (s : Style) (r : Bool) → is_member.ensures-1 𝓛 κs mem run s (record { entry = s; exit = s }) r ≡ fact 𝓤 (r ≡ Kinds.member (style_is s))
   member_promise s r = refl

@@ -16,7 +16,7 @@ use Rattle.standard.specs.declared.kind.UnknownKind.{UnknownKind}
 use Rattle.standard.specs.declared.kind.Short.{Short}
 use Rattle.standard.specs.declared.kind.Short.TheVariants.{Never, Flag, Unsigned, Signed}
 use Rattle.standard.specs.declared.kind.Style.{Style}
-use Rattle.standard.specs.declared.kind.Style.TheVariants.{Numbered, Blob, Lettered, Listed, Mapped, Arrayed, Describing}
+use Rattle.standard.specs.declared.kind.Style.TheVariants.{Foreign, Numbered, Blob, Lettered, Listed, Mapped, Arrayed, Describing}
 
 -- the number of a refusal (docs/FORMAT.md, 5.1)
 abbrev pub reason_is : Reason → ℕ
@@ -97,6 +97,7 @@ short_is (Unsigned z s) = Kinds.unsigned z s
 short_is (Signed s) = Kinds.signed s
 
 abbrev pub style_is : Style → Kinds.Style
+style_is Foreign = Kinds.foreign
 style_is (Numbered s w) = Kinds.numbered (short_is s) w
 style_is (Blob w) = Kinds.blob w
 style_is (Lettered s) = Kinds.lettered s
@@ -104,8 +105,3 @@ style_is (Listed e s) = Kinds.listed e s
 style_is (Mapped s) = Kinds.mapped s
 style_is (Arrayed s) = Kinds.arrayed s
 style_is Describing = Kinds.describing
-
--- the style of a number that may be none of the 25 kinds
-abbrev pub style_in : Option Style → Kinds.Style
-style_in (Some s) = style_is s
-style_in None = Kinds.foreign

@@ -1,9 +1,9 @@
 // The 25 kinds of rows, and what a row of each holds (docs/FORMAT.md, 2.2).
 ghost use Rattle.std.specs.Prelude.{◌≡◌, ◌-◌, ◌^◌, ◌≤◌, ltb};
-ghost use Rattle.standard.specs.Kinds.{style_of, member, nameable, fair, count_in, kind_in};
+ghost use Rattle.standard.specs.Kinds.{style_of, is_kind, member, nameable, fair, count_in, kind_in};
 ghost use Rattle.standard.specs.Encode.{fits_byte};
 ghost use Rattle.standard.specs.Table.{ranged, letters, children};
-ghost use Rattle.standard.specs.InCode.{kind_is, style_is, style_in, Names};
+ghost use Rattle.standard.specs.InCode.{kind_is, style_is, Names};
 
 use crate::format_code;
 
@@ -105,6 +105,8 @@ pub enum Short {
 // What a row holds. The format code of the wide form is the kind itself; the codes of shorter forms are named here, as in the definition.
 #[derive(Clone, Copy)]
 pub enum Style {
+    // None of the 25 kinds: a case of the definition too, to which `style_of` is an equation.
+    Foreign,
     // A number of that many bytes.
     Numbered(Short, usize),
     // Number 0, and that many bytes of text.
@@ -186,14 +188,14 @@ impl Kind {
     }
 }
 
-// What a row of that kind holds, by the kind's number, whatever that is: none where it is none of the 25.
+// What a row of that kind holds, by the kind's number, whatever that is.
 #[tactic(auto, using(crate::specs::Facts::stranger))]
-pub fn style_of(kind: u64) -> Option<Style>
-    ensures { style_in result ≡ style_of kind }
+pub fn style_of(kind: u64) -> Style
+    ensures { style_is result ≡ style_of kind }
 {
     match Kind::try_from(kind) {
-        Ok(kind) => Some(kind.style()),
-        Err(UnknownKind) => None,
+        Ok(kind) => kind.style(),
+        Err(UnknownKind) => Style::Foreign,
     }
 }
 
@@ -282,12 +284,21 @@ pub fn is_nameable(kind: u64) -> bool
 }
 
 impl Style {
+    // Is it the style of one of the 25 kinds.
+    #[tactic(auto, unfolding(crate::specs::Kinds::is_kind, crate::specs::InCode::style_is))]
+    pub fn is_kind(self) -> bool
+        ensures { result ≡ is_kind (style_is self) }
+    {
+        !matches!(self, Style::Foreign)
+    }
+
     // May a row of this style be an element of an array.
     #[tactic(auto, unfolding(crate::specs::Kinds::member, crate::specs::InCode::style_is))]
     pub fn is_member(self) -> bool
         ensures { result ≡ member (style_is self) }
     {
         match self {
+            Style::Foreign => false,
             Style::Numbered(_, width) | Style::Blob(width) => 1 <= width,
             Style::Describing => false,
             _ => true,
@@ -312,7 +323,7 @@ impl Style {
         ensures { result ≡ children (style_is self) number }
     {
         match self {
-            Style::Numbered(_, _) | Style::Blob(_) | Style::Lettered(_) => 0,
+            Style::Foreign | Style::Numbered(_, _) | Style::Blob(_) | Style::Lettered(_) => 0,
             Style::Listed(_, _) | Style::Mapped(_) | Style::Describing => number,
             Style::Arrayed(_) => count_of_elements(number),
         }
@@ -324,6 +335,7 @@ impl Style {
         ensures { result ≡ ranged (style_is self) kind number }
     {
         match self {
+            Style::Foreign => false,
             Style::Numbered(_, width) => fits_width(number, width) && is_fair(kind, number),
             Style::Blob(_) => number == 0,
             Style::Lettered(_) | Style::Listed(_, _) => number <= MOST,

@@ -2,6 +2,7 @@
 #![tactic(auto)]
 
 ghost use Rattle.std.specs.Prelude.{◌≡◌, [], ◌∷◌, ◌+◌, ◌-◌, ◌≤◌, leb, length, position, take, drop};
+ghost use Rattle.std.specs.Bool.{then_some};
 ghost use Rattle.standard.specs.Text.{from◌to◌, tail, utf8, ascii, lead_in, fault_in};
 ghost use Rattle.standard.specs.Kinds.{flaw, good_length};
 ghost use Rattle.text.specs.InCode.{fault_is};
@@ -51,13 +52,20 @@ fn tail_at(text: &[u8], at: usize) -> bool
     byte_at(text, at, 0x80, 0xbf)
 }
 
+// Two bytes, where the second is a tail.
+fn pair_width(text: &[u8]) -> Option<usize>
+    ensures { result ≡ then_some (stand (tail ∷ []) (drop 1 text.now)) 2 }
+{
+    if tail_at(text, 1) { Some(2) } else { None }
+}
+
 // How many bytes the sequence has that stands at the front, if one does.
 fn sequence_width(text: &[u8]) -> Option<usize>
     ensures { result ≡ width_in utf8 text.now }
 {
     match lead_of(*text.first()?)? {
         Lead::One => Some(1),
-        Lead::Two => tail_at(text, 1).then_some(2),
+        Lead::Two => pair_width(text),
         Lead::Three { lo, hi } => (byte_at(text, 1, lo, hi) && tail_at(text, 2)).then_some(3),
         Lead::Four { lo, hi } => {
             (byte_at(text, 1, lo, hi) && tail_at(text, 2) && tail_at(text, 3)).then_some(4)

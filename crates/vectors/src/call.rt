@@ -1,8 +1,8 @@
 // The entry points of the writer and of the reader, each in either form: with a level limit named, or with none.
 // Each function is a choice between two entry points of its own: one function for all would be told both, at every call.
+use reader::walker::Span;
 use reader::{Extent, walker};
 use standard::refusal::Refusal;
-use std::ops::Range;
 
 pub(crate) fn size(named: Option<usize>, words: &[u64], text: &[u8]) -> Result<usize, Refusal> {
     match named {
@@ -42,11 +42,7 @@ pub(crate) fn read(
     }
 }
 
-pub(crate) fn step(
-    named: Option<usize>,
-    bytes: &[u8],
-    at: usize,
-) -> Result<Option<Range<usize>>, Refusal> {
+pub(crate) fn step(named: Option<usize>, bytes: &[u8], at: usize) -> Result<Option<Span>, Refusal> {
     match named {
         Some(limit) => walker::step_within(limit, bytes, at),
         None => walker::step_at(bytes, at),

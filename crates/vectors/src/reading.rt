@@ -6,8 +6,8 @@ use crate::due::{Due, Numbered, Score, in_each_form, is_due};
 use crate::form::Fields;
 use crate::lent::{fill_bytes, fill_words};
 use reader::Extent;
+use reader::walker::Span;
 use standard::refusal::{Reason, Refusal};
-use std::ops::Range;
 
 // No case has more words. As in writing, the buffers are on the stack, and of their full size.
 const WORDS: usize = 4096;
@@ -45,6 +45,7 @@ fn due_of_reading(fields: &mut Fields<'_>, want: &mut Lent<'_>) -> Option<Due<Ex
 }
 
 // Whether measuring's answer goes with what is due of reading. It is the same; but where a room is too small, measuring succeeds.
+// Writing has one of its own, since it accepts another refusal.
 fn goes_with(given: Result<Extent, Refusal>, due: Due<Extent>) -> bool {
     match due {
         Err(refusal)
@@ -123,11 +124,7 @@ pub(crate) fn read_case(line: &[u8]) -> Option<Score>
 }
 
 // The place behind a step, if it is the step that is due: being done is a length of 0.
-fn place_behind(
-    at: usize,
-    given: Result<Option<Range<usize>>, Refusal>,
-    due: Due<usize>,
-) -> Option<usize> {
+fn place_behind(at: usize, given: Result<Option<Span>, Refusal>, due: Due<usize>) -> Option<usize> {
     match (given, due) {
         (Ok(Some(part)), Ok(length)) if part.start == at && part.len() == length => Some(part.end),
         (Ok(None), Ok(0)) => Some(at),

@@ -32,6 +32,7 @@ impl<'a> Table<'a> {
 }
 
 // Whether sizing's answer goes with what is due of writing. It is the same; but where the output is too short, sizing gives a length beyond it.
+// Reading has one of its own.
 fn goes_with(given: Result<usize, Refusal>, due: Due<usize>, room: usize) -> bool {
     match due {
         Err(refusal) if refusal.number == Reason::OutputShort.number() => {

@@ -38,7 +38,8 @@ impl Cursor {
         }
     }
 
-    // Behind a row of so many bytes, so many of them text, with a mark of that width.
+    // Behind a row of so many bytes, so many of them text, with a mark of that width. That the numbers have successors each caller knows of its own
+    // table.
     fn behind(self, size: usize, letters: usize, width: usize) -> Self
         requires { (self.row + 1 < 2 ^ 64) × (self.text + letters < 2 ^ 64) × (self.at + size < 2 ^ 64) × (self.mark + width < 2 ^ 64) }
         ensures { result ≡ behind self size letters width }

@@ -108,7 +108,7 @@ pub(crate) fn item_width(kind: Kind) -> usize
 {
     match kind.style() {
         Style::Numbered(_, width) => width,
-        Style::Blob(_) | Style::Describing => 0,
+        Style::Foreign | Style::Blob(_) | Style::Describing => 0,
         Style::Lettered(_) => 4,
         Style::Listed(_, _) | Style::Mapped(_) => ITEM_WIDTH,
         Style::Arrayed(_) => ITEM_ARRAY_WIDTH,

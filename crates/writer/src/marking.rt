@@ -59,7 +59,7 @@ impl Point {
         }
     }
 
-    // Behind a row without a mark, of so many bytes, before its children.
+    // Behind a row without a mark, of so many bytes, before its children. That its numbers have successors each caller knows of its own table.
     fn past(self, size: usize, children: usize) -> Self
         requires { (self.row + 1 < 2 ^ 64) × (self.size + size < 2 ^ 64) × (0 < self.left) × (self.left + children < 2 ^ 64) }
         ensures { result ≡ beyond self size children }
@@ -187,6 +187,7 @@ pub(crate) fn mark_table(words: &[u64], out: &mut [u8], mark: usize)
 {
     let mut stack = Stack::new();
     let mut c = Point::new(mark);
+    // no range: a row brings its children, and what is due grows and shrinks
     loop {
         if 0 < c.left {
             c = take_row(words, &mut stack, c);

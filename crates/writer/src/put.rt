@@ -32,17 +32,23 @@ pub(crate) fn put_three(out: &mut [u8], at: usize, number: u64)
     put_low::<3>(out, at, number);
 }
 
-// The low bytes of a number, as many as its width.
+// The low bytes of a number, as many as its width. Each width has its own store: a copy of any length would need memmove from outside.
+#[tactic(auto, unfolding(standard::specs::Bytes::be))]
 pub(crate) fn put_be(out: &mut [u8], at: usize, width: usize, number: u64)
     requires { (width ≤ 8) × (at + width ≤ length out.old) }
     ensures { out.new ≡ sets out.old at (be width number) }
 {
     match width {
+        0 => {}
         1 => put_low::<1>(out, at, number),
         2 => put_low::<2>(out, at, number),
+        3 => put_low::<3>(out, at, number),
         4 => put_low::<4>(out, at, number),
+        5 => put_low::<5>(out, at, number),
+        6 => put_low::<6>(out, at, number),
+        7 => put_low::<7>(out, at, number),
         8 => put_low::<8>(out, at, number),
-        _ => out[at..at + width].copy_from_slice(&number.to_be_bytes()[8 - width..]),
+        _ => unreachable!(),
     }
 }
 
@@ -64,7 +70,10 @@ pub(crate) fn put_text(out: &mut [u8], at: usize, text: &[u8], from: usize, coun
         copy_run::<4>(out, at + count - 4, text, from + count - 4);
         return;
     }
-    out[at..at + count].copy_from_slice(&text[from..from + count]);
+    // by hand: `copy_from_slice` of a length known only as the program runs is a call of memmove for each text, and needs it from outside
+    for k in 0..count {
+        out[at + k] = text[from + k];
+    }
 }
 
 // A code alone. This and the functions below give the number of bytes that they write.

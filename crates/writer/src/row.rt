@@ -130,7 +130,7 @@ pub(crate) fn number_on(words: &[u64], row: usize) -> u64
     words[2 * row + 1]
 }
 
-// Is the row at `row` an array.
+// Is the row at `row` an array. A comparison of the word: the row is not looked at further.
 #[inline(always)]
 pub(crate) fn is_array(words: &[u64], row: usize) -> bool
     requires { 2 * row + 2 ≤ length words.now }

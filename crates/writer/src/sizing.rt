@@ -28,7 +28,8 @@ pub struct Extent {
 }
 
 impl Extent {
-    // Behind a row without children that has so many bytes of text and takes so many bytes.
+    // Behind a row without children that has so many bytes of text and takes so many bytes. That the numbers have successors, here and in
+    // `inside`, each caller knows of its own table.
     fn past(self, letters: usize, size: usize) -> Self
         requires { Small (past self letters size) }
         ensures { result ≡ past self letters size }
@@ -78,13 +79,11 @@ pub enum Taken {
 fn is_open(kind: Kind, number: u64) -> bool
     ensures { result ≡ opens (style_of (kind_is kind)) (kind_is kind) number }
 {
-    if number == 0 {
-        return false;
-    }
+    // nothing is asked before the match: so it is one jump with that of `Kind::try_from`
     match kind {
         Kind::Described => number == 2,
-        Kind::List => number <= kind::MOST,
-        Kind::Map => number <= kind::MOST && number % 2 == 0,
+        Kind::List => 0 < number && number <= kind::MOST,
+        Kind::Map => 0 < number && number <= kind::MOST && number % 2 == 0,
         _ => false,
     }
 }
@@ -354,7 +353,11 @@ fn size_items(
     let mut c = start;
     for _ in 0..count {
         if let Some(children) = take_element(table, c.row, levels, told) {
-            let e = size_children(table, told, children, levels, marks, c)?;
+            // handed on whole, as in `size_values`
+            let below = size_children(table, told, children, levels, marks, c);
+            let Ok(e) = below else {
+                return below;
+            };
             c = close(marks, c, told, nested_head(told), e.size, e);
         } else {
             let row = check_element(table, told, levels, c)?;
@@ -383,10 +386,20 @@ pub(crate) fn size_values(
             Some(Taken::Number { size }) => c = c.past(0, size),
             Some(Taken::Letters { letters, size }) => c = c.past(letters, size),
             Some(Taken::Parent { kind, children }) => {
-                let e = size_children(table, kind, children, levels, marks, c)?;
+                // handed on whole: `?` would read the refusal, whose bytes are those of `e.row`, which is then kept in pieces
+                let below = size_children(table, kind, children, levels, marks, c);
+                let Ok(e) = below else {
+                    return below;
+                };
                 c = close(marks, c, kind, open_head(kind, e.size), e.size, e);
             }
-            None => c = size_other(table, levels, c)?,
+            None => {
+                let one = size_other(table, levels, c);
+                let Ok(e) = one else {
+                    return one;
+                };
+                c = e;
+            }
         }
     }
     Ok(c)

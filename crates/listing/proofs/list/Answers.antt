@@ -28,20 +28,20 @@ pub slice_bounds-put_lines-end : goal.slice_bounds-put_lines-end
 slice_bounds-put_lines-end c = sym (length-take-le _ _ (omega (arith, (read (goal.at.slice_bounds-put_lines-end c).In-Ok).few, c.read_within.auto.words)))
 
 pub put_lines-requires : goal.put_lines-requires
-put_lines-requires c = ((read (goal.at.put_lines-requires c).In-Ok).narrow, omega (arith, (read (goal.at.put_lines-requires c).In-Ok).short, ap length c.new-page.ensures))
+put_lines-requires c = ((read (goal.at.put_lines-requires c).In-Ok).narrow, omega (arith, (read (goal.at.put_lines-requires c).In-Ok).short, ap length c.requires))
 
 pub put_end-requires : goal.put_end-requires
 put_end-requires c =
     let short = decimal_short 20 c.in-Ok.extent.length in
-    simp length-append (omega (arith, short, (read (goal.at.put_end-requires c).In-Ok).short, ap length c.new-page.ensures, simp length-append at (ap length c.put_lines.ensures)))
+    simp length-append (omega (arith, short, (read (goal.at.put_end-requires c).In-Ok).short, ap length c.requires, simp length-append at (ap length c.put_lines.ensures)))
 
 pub put_refusal-requires : goal.put_refusal-requires
-put_refusal-requires c = omega (arith, ap length c.new-page.ensures, rw (told (goal.at.put_refusal-requires c).In-Err) at (listing_short level_most c.args.bytes.now))
+put_refusal-requires c = omega (arith, ap length c.requires, rw (told (goal.at.put_refusal-requires c).In-Err) at (listing_short level_most c.args.bytes.now))
 
 pub returns-in-Ok : goal.returns-in-Ok
 returns-in-Ok c =
-    let page = c.put_lines.ensures ∙ ap (λ p. p ++ lines 0 (take (2 * c.in-Ok.extent.rows) c.read_within.new.words)) c.new-page.ensures in
+    let page = c.put_lines.ensures ∙ ap (λ p. p ++ lines 0 (take (2 * c.in-Ok.extent.rows) c.read_within.new.words)) c.requires in
     c.put_end.ensures ∙ ap (λ p. p ++ end_line c.in-Ok.extent.length) page ∙ sym (read (goal.at.returns-in-Ok c).In-Ok).shows
 
 pub returns-in-Err : goal.returns-in-Err
-returns-in-Err c = c.put_refusal.ensures ∙ ap (λ p. p ++ refused_line (reason_is c.in-Err.refusal.reason) c.in-Err.refusal.place) c.new-page.ensures ∙ sym (told (goal.at.returns-in-Err c).In-Err)
+returns-in-Err c = c.put_refusal.ensures ∙ ap (λ p. p ++ refused_line (reason_is c.in-Err.refusal.reason) c.in-Err.refusal.place) c.requires ∙ sym (told (goal.at.returns-in-Err c).In-Err)

@@ -1,6 +1,6 @@
 -- `text::sequence_width` meets its contract: what the first byte asks for is tested a byte at a time.
 use mathlib.Core.List.{[], ◌∷◌}
-use mathlib.Core.Path.{◌≡◌, sym, ap, ◌∙◌}
+use mathlib.Core.Path.{◌≡◌, refl, sym, ap, ◌∙◌}
 use lib.ListN.{drop}
 use Rattle.std.specs.Prelude.{Some}
 use Rattle.std.proofs.lemmas.Bool.{false≢true}
@@ -27,11 +27,11 @@ unfolding stand
 returns-in-One c = by_lead (goal.at.returns-in-One c).In_ok-lead_of _ c.in-One.is
 
 pub returns-in-Two : goal.returns-in-Two
-returns-in-Two c = c.then_some.ensures ∙ width_then (tail ∷ []) _ _ c.tail_at.ensures ∙ by_lead (goal.at.returns-in-Two c).In_ok-lead_of _ c.in-Two.is
+returns-in-Two c = c.pair_width.ensures ∙ width_then (tail ∷ []) _ _ refl ∙ by_lead (goal.at.returns-in-Two c).In_ok-lead_of _ c.in-Two.is
 
 pub returns-after-byte_at : goal.returns-after-byte_at
-returns-after-byte_at c = c.then_some-in-Three.ensures ∙ width_then _ _ _ (elim c.if-byte_at.branch [
-  | then-byte_at w ↦ stand_on _ _ c.args.text.now 1 _ (sym w.if-byte_at.true ∙ c.byte_at.ensures) (w.then_some-is ∙ w.tail_at-then-byte_at.ensures)
+returns-after-byte_at c = c.then_some.ensures ∙ width_then _ _ _ (elim c.if-byte_at.branch [
+  | then-byte_at w ↦ stand_on _ _ c.args.text.now 1 _ (sym w.if-byte_at.true ∙ c.byte_at.ensures) (w.then_some-is ∙ w.tail_at.ensures)
   | else-byte_at w ↦ stand_off _ (tail ∷ []) c.args.text.now 1 _ (sym w.if-byte_at.false ∙ c.byte_at.ensures) (w.then_some-is ∙ w.if-byte_at.false)
 ]) ∙ by_lead (goal.at.returns-after-byte_at c).In_ok-lead_of _ c.in-Three.is
 

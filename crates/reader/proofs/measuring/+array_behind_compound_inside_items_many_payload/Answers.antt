@@ -18,7 +18,7 @@ use Rattle.reader.proofs.Entries.{entry_layout, entry_sure}
 use Rattle.reader.proofs.Scalars.{constant_is, small_is, raw_is}
 use Rattle.reader.proofs.Rooms.{rest, part_length}
 use Rattle.reader.proofs.Several.{run_roomy, begin, end, stops, ends, again, plainly, begun}
-use Rattle.reader.proofs.Nodes.{behind_of, compound_of, unknown_is, scalar_is, described_is, Framed, framed, unframed, compound_odd, compound_is, array_is, inside_deep, inside_none, inside_empty, inside_some, items_no, fit_of, items_is}
+use Rattle.reader.proofs.Nodes.{behind_of, compound_of, text_of, unknown_is, scalar_is, described_is, Framed, framed, unframed, compound_odd, compound_is, array_is, inside_deep, inside_none, inside_empty, inside_some, items_no, fit_of, items_is}
 use Rattle.reader.proofs.measuring.+array_behind_compound_inside_items_many_payload.Goals as goal
 use Rattle.reader.proofs.measuring.+array_behind_compound_inside_items_many_payload.Goals.{inside-then-count-gt0+else-levels-eq0+else-is_empty, inside-else-count-gt0, many-then-is_plain+then-end-s, many-else-is_plain+in_ok-value}
 
@@ -231,6 +231,12 @@ many-loop-preserved t c = elim c.if-is_plain.branch [
 
 pub many-returns : goal.many-returns
 many-returns t c = end _ _ _ _ _ _ _ _ _ c.loop.invariant (omega arith)
+
+pub payload-returns-in-Some-text_of : goal.payload-returns-in-Some-text_of
+payload-returns-in-Some-text_of t c =
+    let a = c.args in
+    let u = c.in-Some-text_of.ensures in
+    c.sized.ensures ∙ sym (text_of a.levels a.code a.room.place _ _ a.room.bytes.now c.requires u.0 u.1)
 
 pub payload-returns-in-Some : goal.payload-returns-in-Some
 payload-returns-in-Some t c =
