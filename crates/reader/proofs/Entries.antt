@@ -1,22 +1,22 @@
 -- What the code relies on of the table of codes: one test, computed over all of it.
-use Prim.Native.Nat.{ℕ, zero, suc, ◌*◌, ◌/◌, ◌%◌, ◌^◌, ◌<◌}
+use Prim.Native.Nat.{ℕ, zero, suc, ◌*◌, ◌/◌, ◌%◌, ◌^◌, ◌≤◌, ◌<◌}
 use mathlib.Core.Path.{◌≡◌, refl, sym, ap, ◌∙◌, subst}
 use mathlib.Core.List.{List, [], ◌∷◌}
 use Rattle.std.specs.Prelude.{Some, None}
 use mathlib.Core.Bool.{Bool, true, false, not, ◌&&◌, ◌||◌}
 use native.Mathlib.Omega.{arith}
-use borrow.Author.Tests.{eqb-true, eqb-false, ne_eqb}
-use lib.Dec.{T, eqb, eqb→eq, ltb, ltb→lt}
+use borrow.Author.Tests.{eqb-true, eqb-false, ne_eqb, le-ltb}
+use lib.Dec.{T, eqb, leb, eqb→eq, ltb, ltb→lt}
 use Rattle.standard.specs.Choose.{lookup}
 use Rattle.standard.specs.Codes
-use Rattle.standard.specs.Codes.{codes, entry, entry_of, constant, whole, small, raw, sized, unknown, described, scalar, compound, array, layout_of, kind_of, filled, element}
+use Rattle.standard.specs.Codes.{codes, entry, entry_of, constant, whole, small, raw, sized, unknown, described, scalar, compound, array, layout_of, kind_of, is_code, filled, element}
 use Rattle.standard.specs.Kinds.{fair}
 use Rattle.standard.specs.InCode.{kind_is, layout_is, entry_is}
 use Rattle.standard.specs.declared.format_code.Layout.{Layout}
 use Rattle.standard.specs.declared.format_code.Entry.{Entry}
 use Rattle.standard.specs.Facts.{T_true, T_false, and_left, and_right, if_case}
 use Rattle.reader.specs.Entries.{narrow, judged, sure, plain_code, plain_width, short_code}
-use Rattle.reader.specs.Measuring.{is_compound}
+use Rattle.reader.specs.Measuring.{is_text, is_compound, is_array}
 
 all : {A : Type 0} → (A → Bool) → List A → Bool
 all P [] = true
@@ -50,6 +50,13 @@ either x y t e = rw e at t
 -- a narrow width that is not one is four
 pub narrow_four : (w : ℕ) → T (narrow w) → (w ≡ 1 → ⊥) → w ≡ 4
 narrow_four w t h = eqb→eq w 4 (either (eqb w 1) (eqb w 4) t (ne_eqb w 1 h))
+
+pub narrow_some : (w : ℕ) → T (narrow w) → leb 1 w ≡ true
+narrow_some w t = go (eqb w 1) refl
+  where
+    go : (b : Bool) → eqb w 1 ≡ b → leb 1 w ≡ true
+    go true i = subst (λ (v : ℕ). leb 1 v ≡ true) (sym (eqb-true w 1 i)) refl
+    go false i = subst (λ (v : ℕ). leb 1 v ≡ true) (sym (narrow_four w t (eqb-false w 1 i))) refl
 
 pub four_or_eight : (w : ℕ) → T (eqb w 4 || eqb w 8) → (w ≡ 4 → ⊥) → w ≡ 8
 four_or_eight w t h = eqb→eq w 8 (either (eqb w 4) (eqb w 8) t (ne_eqb w 4 h))
@@ -105,11 +112,82 @@ wides c h = all_upto (λ c. not (element (layout_of c)) || (short_code c || eqb 
 pub wide_kind : (c : ℕ) → c < 256 → T (element (layout_of c)) → short_code c ≡ false → kind_of c ≡ c
 wide_kind c h t e = eqb→eq (kind_of c) c (either (short_code c) _ (either (not (element (layout_of c))) _ (wides c h) (rw (T_true (element (layout_of c)) t))) e)
 
--- the codes of lists and maps
-compounds : (c : ℕ) → c < 256 → T (eqb c 0xc0 || (eqb c 0xc1 || (eqb c 0xd0 || (eqb c 0xd1 || not (is_compound (layout_of c))))))
+-- Texts, lists and maps, and arrays have each the upper halves of two codes. P holds of all bytes of which Q does
+among : (P Q : ℕ → Bool) (c : ℕ) → T (all (λ c. P c || not (Q c)) (upto 256)) → c < 256 → P c ≡ false → Q c ≡ false
+among P Q c t h e = T_false (Q c) (either (P c) (not (Q c)) (all_upto (λ c. P c || not (Q c)) 256 c t h) e)
+
+pub no_text_half : (c : ℕ) → c < 256 → (c / 32 ≡ 5 → ⊥) → is_text (layout_of c) ≡ false
+unfolding lookup entry_of codes is_text all upto
+no_text_half c h f = among (λ c. eqb (c / 32) 5) (λ c. is_text (layout_of c)) c tt h (ne_eqb (c / 32) 5 f)
+
+pub no_compound_half : (c : ℕ) → c < 256 → (c / 32 ≡ 6 → ⊥) → is_compound (layout_of c) ≡ false
 unfolding lookup entry_of codes is_compound all upto
-compounds c h = all_upto (λ c. eqb c 0xc0 || (eqb c 0xc1 || (eqb c 0xd0 || (eqb c 0xd1 || not (is_compound (layout_of c)))))) 256 c tt h
+no_compound_half c h f = among (λ c. eqb (c / 32) 6) (λ c. is_compound (layout_of c)) c tt h (ne_eqb (c / 32) 6 f)
+
+pub no_array_half : (c : ℕ) → c < 256 → (c / 32 ≡ 7 → ⊥) → is_array (layout_of c) ≡ false
+unfolding lookup entry_of codes is_array all upto
+no_array_half c h f = among (λ c. eqb (c / 32) 7) (λ c. is_array (layout_of c)) c tt h (ne_eqb (c / 32) 7 f)
+
+-- and stand above all others
+lower : (Q : ℕ → Bool) (c : ℕ) → T (all (λ c. not (Q c)) (upto 0xa0)) → c < 0xa0 → Q c ≡ false
+lower Q c t h = T_false (Q c) (all_upto (λ c. not (Q c)) 0xa0 c t h)
+
+pub low : (c : ℕ) → c < 0xa0 → (is_text (layout_of c) ≡ false) × (is_compound (layout_of c) ≡ false) × (is_array (layout_of c) ≡ false)
+unfolding lookup entry_of codes is_text is_compound is_array all upto
+low c h = (lower (λ c. is_text (layout_of c)) c tt h, lower (λ c. is_compound (layout_of c)) c tt h, lower (λ c. is_array (layout_of c)) c tt h)
+
+highs : (c : ℕ) → c < 256 → T (ltb c 0xa0 || (is_text (layout_of c) || (is_compound (layout_of c) || (is_array (layout_of c) || not (is_code (layout_of c))))))
+unfolding lookup entry_of codes is_text is_compound is_array is_code all upto
+highs c h = all_upto (λ c. ltb c 0xa0 || (is_text (layout_of c) || (is_compound (layout_of c) || (is_array (layout_of c) || not (is_code (layout_of c)))))) 256 c tt h
+
+no_code : (y : Codes.Layout) → T (not (is_code y)) → y ≡ unknown
+unfolding is_code
+no_code unknown t = refl
+no_code described t = absurd t
+no_code (scalar s) t = absurd t
+no_code (compound w) t = absurd t
+no_code (array w) t = absurd t
+
+pub high : (c : ℕ) → c < 256 → 0xa0 ≤ c → is_text (layout_of c) ≡ false → is_compound (layout_of c) ≡ false → is_array (layout_of c) ≡ false → layout_of c ≡ unknown
+high c h i e f g =
+    no_code (layout_of c) (either (is_array (layout_of c)) _ (either (is_compound (layout_of c)) _ (either (is_text (layout_of c)) _ (either (ltb c 0xa0) _ (highs c h) (le-ltb c 0xa0 i)) e) f) g)
+
+-- is it one of these bytes
+unfoldable one_of : (c : ℕ) → List ℕ → Bool
+one_of c [] = false
+one_of c (d ∷ ds) = eqb c d || one_of c ds
+
+pub no_text : (c : ℕ) → c < 256 → (c ≡ 0xa0 → ⊥) → (c ≡ 0xa1 → ⊥) → (c ≡ 0xa3 → ⊥) → (c ≡ 0xb0 → ⊥) → (c ≡ 0xb1 → ⊥) → (c ≡ 0xb3 → ⊥) → is_text (layout_of c) ≡ false
+unfolding lookup entry_of codes is_text all upto one_of
+no_text c h f g i j k l =
+    among (λ c. one_of c (0xa0 ∷ 0xa1 ∷ 0xa3 ∷ 0xb0 ∷ 0xb1 ∷ 0xb3 ∷ [])) (λ c. is_text (layout_of c)) c tt h (rw (ne_eqb c 0xa0 f, ne_eqb c 0xa1 g, ne_eqb c 0xa3 i, ne_eqb c 0xb0 j, ne_eqb c 0xb1 k, ne_eqb c 0xb3 l) refl)
 
 pub no_compound : (c : ℕ) → c < 256 → (c ≡ 0xc0 → ⊥) → (c ≡ 0xc1 → ⊥) → (c ≡ 0xd0 → ⊥) → (c ≡ 0xd1 → ⊥) → is_compound (layout_of c) ≡ false
+unfolding lookup entry_of codes is_compound all upto one_of
 no_compound c h f g i j =
-    T_false (is_compound (layout_of c)) (either (eqb c 0xd1) _ (either (eqb c 0xd0) _ (either (eqb c 0xc1) _ (either (eqb c 0xc0) _ (compounds c h) (ne_eqb c 0xc0 f)) (ne_eqb c 0xc1 g)) (ne_eqb c 0xd0 i)) (ne_eqb c 0xd1 j))
+    among (λ c. one_of c (0xc0 ∷ 0xc1 ∷ 0xd0 ∷ 0xd1 ∷ [])) (λ c. is_compound (layout_of c)) c tt h (rw (ne_eqb c 0xc0 f, ne_eqb c 0xc1 g, ne_eqb c 0xd0 i, ne_eqb c 0xd1 j) refl)
+
+pub no_array : (c : ℕ) → c < 256 → (c ≡ 0xe0 → ⊥) → (c ≡ 0xf0 → ⊥) → is_array (layout_of c) ≡ false
+unfolding lookup entry_of codes is_array all upto one_of
+no_array c h f g = among (λ c. one_of c (0xe0 ∷ 0xf0 ∷ [])) (λ c. is_array (layout_of c)) c tt h (rw (ne_eqb c 0xe0 f, ne_eqb c 0xf0 g) refl)
+
+pub other_codes : (c d : ℕ) → is_compound (layout_of c) ≡ false → is_compound (layout_of d) ≡ true → c ≡ d → ⊥
+other_codes c d h i e = let f = rw e at h in cc
+
+-- a compound that is no list is a map, and a text that is no string and no symbol is binary
+maps : (c : ℕ) → c < 256 → T (one_of c (0xc0 ∷ 0xd0 ∷ []) || (not (is_compound (layout_of c)) || eqb (kind_of c) 0xd1))
+unfolding lookup entry_of codes is_compound all upto one_of
+maps c h = all_upto (λ c. one_of c (0xc0 ∷ 0xd0 ∷ []) || (not (is_compound (layout_of c)) || eqb (kind_of c) 0xd1)) 256 c tt h
+
+pub map_kind : (c : ℕ) → c < 256 → is_compound (layout_of c) ≡ true → (c ≡ 0xc0 → ⊥) → (c ≡ 0xd0 → ⊥) → kind_of c ≡ 0xd1
+unfolding one_of
+map_kind c h e f g = eqb→eq (kind_of c) 0xd1 (either (not (is_compound (layout_of c))) _ (either (one_of c (0xc0 ∷ 0xd0 ∷ [])) _ (maps c h) (rw (ne_eqb c 0xc0 f, ne_eqb c 0xd0 g) refl)) (rw e refl))
+
+binaries : (c : ℕ) → c < 256 → T (one_of c (0xa1 ∷ 0xa3 ∷ 0xb1 ∷ 0xb3 ∷ []) || (not (is_text (layout_of c)) || eqb (kind_of c) 0xb0))
+unfolding lookup entry_of codes is_text all upto one_of
+binaries c h = all_upto (λ c. one_of c (0xa1 ∷ 0xa3 ∷ 0xb1 ∷ 0xb3 ∷ []) || (not (is_text (layout_of c)) || eqb (kind_of c) 0xb0)) 256 c tt h
+
+pub binary_kind : (c : ℕ) → c < 256 → is_text (layout_of c) ≡ true → (c ≡ 0xa1 → ⊥) → (c ≡ 0xa3 → ⊥) → (c ≡ 0xb1 → ⊥) → (c ≡ 0xb3 → ⊥) → kind_of c ≡ 0xb0
+unfolding one_of
+binary_kind c h e f g i j =
+    eqb→eq (kind_of c) 0xb0 (either (not (is_text (layout_of c))) _ (either (one_of c (0xa1 ∷ 0xa3 ∷ 0xb1 ∷ 0xb3 ∷ [])) _ (binaries c h) (rw (ne_eqb c 0xa1 f, ne_eqb c 0xa3 g, ne_eqb c 0xb1 i, ne_eqb c 0xb3 j) refl)) (rw e refl))

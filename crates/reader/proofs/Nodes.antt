@@ -23,7 +23,6 @@ use Rattle.standard.specs.InCode.{kind_is, layout_is, entry_is}
 use Rattle.standard.specs.declared.format_code.Entry.{Entry}
 use Rattle.standard.specs.declared.format_code.Layout as in_code
 use Rattle.reader.specs.declared.measuring.Body.{Body}
-use Rattle.reader.proofs.Entries.{entry_none}
 use Rattle.reader.proofs.Rooms.{part_length, back}
 use Rattle.reader.proofs.Several.{run_cut}
 
@@ -59,23 +58,18 @@ behind_of (suc l) c p r e y h i j =
     let d : suc l - 1 ≡ l = omega arith in
     rw d (ap (measured (length r)) (ap (λ (x : codes.Entry). behind (below l) l x.kind p r x.layout) (sym i) ∙ ap (λ (y : in_code.Layout). behind (below l) l (kind_is e.kind) p r (layout_is y)) j))
 
-pub unknown_is : (l c p : ℕ) (r : List ℕ) → 0 < l → entry_is c None ≡ entry_of c → measured (length r) (payload l c p r) ≡ refused code_unknown p
+pub unknown_is : (l c p : ℕ) (r : List ℕ) → 0 < l → layout_of c ≡ unknown → measured (length r) (payload l c p r) ≡ refused code_unknown p
 unfolding payload behind measured
 unknown_is zero c p r h i = absurd (omega arith)
-unknown_is (suc l) c p r h i = rw (entry_none c i)
+unknown_is (suc l) c p r h i = rw i
 
--- and of a list or a map, by its code
-pub compound_of : (l c p k w : ℕ) (r : List ℕ) → 0 < l → kind_of c ≡ k → layout_of c ≡ compound w → measured (length r) (payload l c p r) ≡ measured (length r) (behind (below (l - 1)) (l - 1) k p r (compound w))
+-- and by the code itself
+pub coded_is : (l c p k : ℕ) (y : Layout) (r : List ℕ) → 0 < l → kind_of c ≡ k → layout_of c ≡ y → measured (length r) (payload l c p r) ≡ measured (length r) (behind (below (l - 1)) (l - 1) k p r y)
 unfolding payload
-compound_of zero c p k w r h e f = absurd (omega arith)
-compound_of (suc l) c p k w r h e f =
+coded_is zero c p k y r h e f = absurd (omega arith)
+coded_is (suc l) c p k y r h e f =
     let d : suc l - 1 ≡ l = omega arith in
     rw (d, e, f)
-
-pub text_of : (l c p k w : ℕ) (r : List ℕ) → 0 < l → kind_of c ≡ k → layout_of c ≡ scalar (sized w) → measured (length r) (payload l c p r) ≡ measured (length r) (leaf (sized w) k p r)
-unfolding payload behind
-text_of zero c p k w r h e f = absurd (omega arith)
-text_of (suc l) c p k w r h e f = rw (e, f)
 
 module _ (l k p : ℕ) where
   pub scalar_is : (n : ℕ) (r : List ℕ) (s : Scalar) → measured n (behind (below l) l k p r (scalar s)) ≡ measured n (leaf s k p r)

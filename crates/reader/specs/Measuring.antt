@@ -2,7 +2,7 @@
 use Rattle.std.specs.Prelude.{ℕ, zero, suc, ◌+◌, ◌-◌, ◌^◌, ◌≤◌, ◌<◌, ◌≡◌, List, [], ◌∷◌, T, eqb, leb, length, Bool, true, false, Option, Some, None}
 use Rattle.standard.specs.Answer.{Answer, got, refuse, need, ◌>>◌, at, byte, too_deep, element_unfit, input_short, code_unknown, payload_bad, size_amiss, rows_short, text_short}
 use Rattle.standard.specs.Choose.{if}
-use Rattle.standard.specs.Codes.{Layout, unknown, described, scalar, compound, array, layout_of, is_code, element}
+use Rattle.standard.specs.Codes.{Layout, unknown, described, scalar, compound, array, constant, whole, small, raw, sized, layout_of, is_code, element}
 use Rattle.standard.specs.Tree.{Tree, Trees, tall, tall*, text, text*}
 use Rattle.standard.specs.Read.{coded, payload}
 use Rattle.standard.specs.Outcomes.{Extent}
@@ -83,12 +83,31 @@ element_of p y = do
   need (is_code y) code_unknown (at p)
   need (element y) element_unfit (at p)
 
+-- what has a length, or a size and a count, in front: texts, lists and maps, arrays
+unfoldable pub is_text : Layout → Bool
+is_text unknown = false
+is_text described = false
+is_text (scalar (constant n)) = false
+is_text (scalar (whole w)) = false
+is_text (scalar (small w)) = false
+is_text (scalar (raw w)) = false
+is_text (scalar (sized w)) = true
+is_text (compound w) = false
+is_text (array w) = false
+
 unfoldable pub is_compound : Layout → Bool
 is_compound unknown = false
 is_compound described = false
 is_compound (scalar s) = false
 is_compound (compound w) = true
 is_compound (array w) = false
+
+unfoldable pub is_array : Layout → Bool
+is_array unknown = false
+is_array described = false
+is_array (scalar s) = false
+is_array (compound w) = false
+is_array (array w) = true
 
 -- behind that code, what has w bytes is a row without text, whatever the bytes are
 abbrev pub Plain : (code width : ℕ) → Type 0

@@ -1,7 +1,7 @@
 // Filling rows and text from bytes that begin with a well-formed value, one row after another (docs/FORMAT.md, 4 and 6.4).
 //
 // There is no recursion into values: what is due is a stack of runs of them (src/due.rt).
-ghost use Rattle.std.specs.Prelude.{◌≡◌, ◌+◌, ◌^◌, ◌≤◌, ◌<◌, ◌||◌, T, eqb, length, drop};
+ghost use Rattle.std.specs.Prelude.{◌≡◌, ◌+◌, ◌^◌, ◌≤◌, ◌<◌, ◌||◌, T, eqb, false, length, drop};
 ghost use Rattle.std.proofs.lemmas.List.Edits.{sets};
 ghost use Rattle.standard.specs.Codes.{kind_of, layout_of, element, scalar, compound, array, constant, whole, small, raw, sized};
 ghost use Rattle.standard.specs.Kinds.{named};
@@ -11,10 +11,12 @@ ghost use Rattle.standard.specs.Outcomes.{level_most, over};
 ghost use Rattle.standard.specs.InCode.{kind_is};
 ghost use Rattle.laws.specs.Flat.{step_of, behind_step};
 ghost use Rattle.reader.specs.Entries.{narrow, usual};
+ghost use Rattle.reader.specs.Measuring.{is_compound};
 ghost use Rattle.reader.specs.Runs.{head_is};
 ghost use Rattle.reader.specs.Filling.{Lands, leaf_row, parent_row, RowFound, Fillable, rows_in, text_in};
 
 use crate::due::{Below, Run};
+use crate::measuring::{compound_kind, compound_width};
 use crate::number::{narrow_at, number_at};
 use standard::format_code::{Compound8, Compound32};
 use standard::kind::Kind;
@@ -84,7 +86,9 @@ fn parent(kind: Kind, count: u64, from: usize) -> Row
     }
 }
 
-// The number of an element code's kind: the code itself, where it is that of the wide form. Looking the entry up takes longer.
+// The number of an element code's kind: the code itself, where it is that of the wide form. Looking the entry up takes longer. It stays a call:
+// in place it would take the registers in which the rows of lists are made.
+#[inline(never)]
 #[tactic(auto, unfolding(standard::specs::Codes::entry_of, standard::specs::Codes::codes, standard::specs::Choose::lookup))]
 fn element_kind(code: u8) -> u64
     requires { T (element (layout_of code)) }
@@ -199,11 +203,11 @@ fn compound_row(here: Cursor, kind: Kind, width: usize) -> Row
     parent(kind, count, here.at + width + width)
 }
 
-// The row of what stands behind a code. Each code goes its own way at once, with its kind: looking its entry up takes as long again, and
-// so does the number of a kind that is not known here.
+// The row of what stands behind the code of anything but a list or a map. Each code goes its own way at once, with its kind: looking its
+// entry up takes as long again, and so does the number of a kind that is not known here.
 #[tactic(auto, unfolding(standard::specs::Codes::entry_of, standard::specs::Codes::codes, standard::specs::Choose::lookup), using(crate::proofs::RowSteps::described_row, crate::proofs::RowSteps::entry_there))]
-fn row_behind(here: Cursor, code: u8) -> Row
-    requires { Lands (behind_step (kind_of code) (drop here.at here.bytes.now) (layout_of code)) }
+fn other_row(here: Cursor, code: u8) -> Row
+    requires { (is_compound (layout_of code) ≡ false) × Lands (behind_step (kind_of code) (drop here.at here.bytes.now) (layout_of code)) }
     ensures { RowFound here.entry.bytes.now (behind_step (kind_of code) (drop here.entry.at here.entry.bytes.now) (layout_of code)) result }
 {
     match code {
@@ -241,14 +245,21 @@ fn row_behind(here: Cursor, code: u8) -> Row
         format_code::BINARY_32 => sized_row(here, Kind::Binary, 4),
         format_code::STRING_32 => sized_row(here, Kind::String, 4),
         format_code::SYMBOL_32 => sized_row(here, Kind::Symbol, 4),
-        format_code::LIST_8 => compound_row(here, Kind::List, Compound8::COUNT_WIDTH),
-        format_code::MAP_8 => compound_row(here, Kind::Map, Compound8::COUNT_WIDTH),
-        format_code::LIST_32 => compound_row(here, Kind::List, Compound32::COUNT_WIDTH),
-        format_code::MAP_32 => compound_row(here, Kind::Map, Compound32::COUNT_WIDTH),
         format_code::ARRAY_8 => array_row(here, Kind::Array, Compound8::COUNT_WIDTH),
         format_code::ARRAY_32 => array_row(here, Kind::Array, Compound32::COUNT_WIDTH),
         _ => unreachable!(),
     }
+}
+
+// The row of what stands behind a code. Lists and maps, of which there are many, do not take the jump that the others take.
+fn row_behind(here: Cursor, code: u8) -> Row
+    requires { Lands (behind_step (kind_of code) (drop here.at here.bytes.now) (layout_of code)) }
+    ensures { RowFound here.entry.bytes.now (behind_step (kind_of code) (drop here.entry.at here.entry.bytes.now) (layout_of code)) result }
+{
+    if let Some(width) = compound_width(code) {
+        return compound_row(here, compound_kind(code), width);
+    }
+    other_row(here, code)
 }
 
 // The row of the next value, which stands behind that code or begins with its own.

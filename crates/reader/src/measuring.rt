@@ -4,7 +4,7 @@
 // They call each other with fewer levels left; values that stand side by side are taken in one loop. A room is a part of the
 // caller's bytes, and nothing beyond it is looked at. The place of a value is where its code stands; an element's counts from the
 // code before it, as if that stood right in front of it.
-ghost use Rattle.std.specs.Prelude.{◌≡◌, true, false, ℕ, ◌+◌, ◌^◌, ◌≤◌, ◌<◌, T, length, take, drop, IfOk, IfSome, MatchOption};
+ghost use Rattle.std.specs.Prelude.{◌≡◌, true, false, ℕ, ◌+◌, ◌^◌, ◌≤◌, ◌<◌, T, length, take, drop, IfOk, MatchOption};
 ghost use Rattle.standard.specs.Bytes.{unbe};
 ghost use Rattle.standard.specs.Codes as codes;
 ghost use Rattle.standard.specs.Codes.{layout_of, kind_of, entry_of};
@@ -15,7 +15,7 @@ ghost use Rattle.standard.specs.Outcomes.{level_default};
 ghost use Rattle.standard.specs.InCode.{kind_is, entry_is};
 ghost use Rattle.reader.specs.Entries.{narrow, judged, sure, plain_below, plain_width};
 ghost use Rattle.reader.specs.InCode.{measured_is, extent_is, Settled, found_is, counted_is, body_is};
-ghost use Rattle.reader.specs.Measuring.{block, measured, several, contents, above, closed, below, reads, reach, code_at, element_of, is_compound, Taking, Plain};
+ghost use Rattle.reader.specs.Measuring.{block, measured, several, contents, above, closed, below, reads, reach, code_at, element_of, is_text, is_compound, is_array, Taking, Plain};
 ghost use Rattle.reader.specs.declared.measuring.Stop.TheVariants.{Refused};
 
 use crate::number::narrow_at;
@@ -74,13 +74,6 @@ struct Room<'a> {
 struct Body {
     count: usize,
     end: usize,
-}
-
-// What a code of a list, a map or a text says: the kind, and the width of each number that stands behind the code.
-#[derive(Clone, Copy)]
-struct Coded {
-    kind: Kind,
-    width: usize,
 }
 
 fn refused(reason: Reason, place: usize) -> Stop
@@ -218,11 +211,15 @@ fn filled(width: usize, place: usize) -> Result<(), Stop>
     Ok(())
 }
 
-// May a code stand for the elements of an array, whose body begins at that place.
+// May a code stand for the elements of an array, whose body begins at that place. That of a list, a map or an array may, and does not wait
+// for its entry.
 #[tactic(auto, unfolding(crate::specs::Measuring::element_of, standard::specs::Codes::is_code, standard::specs::Codes::element, standard::specs::Codes::filled), using(crate::proofs::Entries::entry_layout, crate::proofs::Entries::entry_none))]
 fn element_of(code: u8, place: usize) -> Result<(), Stop>
     ensures { found_is result ≡ element_of place (layout_of code) }
 {
+    if compound_width(code).is_some() || array_width(code).is_some() {
+        return Ok(());
+    }
     let Some(entry) = entry_of(code) else {
         return Err(refused(Reason::CodeUnknown, place));
     };
@@ -336,85 +333,77 @@ fn plain_width(code: u8) -> usize
     (1usize << upper) / 32
 }
 
+// Lists and maps, arrays, and texts are asked for one sort after the other, each first by the upper half of its two codes: as one choice
+// among all the codes they would take a jump through a table.
+
 // The width of the size and the count of a list or a map, by its code.
-#[tactic(auto, unfolding(standard::specs::Codes::entry_of, standard::specs::Codes::codes, standard::specs::Choose::lookup), using(crate::proofs::Entries::no_compound))]
-fn compound_width(code: u8) -> Option<usize>
+#[tactic(auto, unfolding(standard::specs::Codes::entry_of, standard::specs::Codes::codes, standard::specs::Choose::lookup), using(crate::proofs::Entries::no_compound_half, crate::proofs::Entries::no_compound))]
+pub(crate) fn compound_width(code: u8) -> Option<usize>
     ensures { MatchOption result (is_compound (layout_of code) ≡ false) (λ w. (layout_of code ≡ codes.compound w) × T (narrow w)) }
 {
+    if code / 32 != format_code::LIST_8 / 32 {
+        return None;
+    }
     match code {
-        format_code::LIST_8 => Some(format_code::Compound8::COUNT_WIDTH),
-        format_code::MAP_8 => Some(format_code::Compound8::COUNT_WIDTH),
-        format_code::LIST_32 => Some(format_code::Compound32::COUNT_WIDTH),
-        format_code::MAP_32 => Some(format_code::Compound32::COUNT_WIDTH),
+        format_code::LIST_8 | format_code::MAP_8 => Some(format_code::Compound8::COUNT_WIDTH),
+        format_code::LIST_32 | format_code::MAP_32 => Some(format_code::Compound32::COUNT_WIDTH),
         _ => None,
     }
 }
 
 // Its kind.
-#[tactic(auto, unfolding(standard::specs::Codes::entry_of, standard::specs::Codes::codes, standard::specs::Choose::lookup), using(crate::proofs::Entries::no_compound))]
-fn compound_kind(code: u8) -> Kind
+#[tactic(auto, unfolding(standard::specs::Codes::entry_of, standard::specs::Codes::codes, standard::specs::Choose::lookup), using(crate::proofs::Entries::map_kind))]
+pub(crate) fn compound_kind(code: u8) -> Kind
     requires { is_compound (layout_of code) ≡ true }
     ensures { kind_of code ≡ kind_is result }
 {
     match code {
-        format_code::LIST_8 => Kind::List,
-        format_code::MAP_8 => Kind::Map,
-        format_code::LIST_32 => Kind::List,
-        format_code::MAP_32 => Kind::Map,
-        _ => unreachable!(),
+        format_code::LIST_8 | format_code::LIST_32 => Kind::List,
+        _ => Kind::Map,
     }
 }
 
-// A list or a map, by its code. Width and kind are asked for apart: together they would take a jump through a table, and apart they are
-// comparisons, which the processor guesses.
-fn compound_of(code: u8) -> Option<Coded>
-    ensures { MatchOption result (is_compound (layout_of code) ≡ false) (λ c. (kind_of code ≡ kind_is c.kind) × (layout_of code ≡ codes.compound c.width) × T (narrow c.width)) }
+// The width of an array's size and count, by its code.
+#[tactic(auto, unfolding(standard::specs::Codes::entry_of, standard::specs::Codes::codes, standard::specs::Choose::lookup), using(crate::proofs::Entries::no_array_half, crate::proofs::Entries::no_array))]
+fn array_width(code: u8) -> Option<usize>
+    ensures { MatchOption result (is_array (layout_of code) ≡ false) (λ w. (layout_of code ≡ codes.array w) × T (narrow w)) }
 {
-    let width = compound_width(code)?;
-    let kind = compound_kind(code);
-    Some(Coded { kind, width })
+    if code / 32 != format_code::ARRAY_8 / 32 {
+        return None;
+    }
+    match code {
+        format_code::ARRAY_8 => Some(format_code::Compound8::COUNT_WIDTH),
+        format_code::ARRAY_32 => Some(format_code::Compound32::COUNT_WIDTH),
+        _ => None,
+    }
 }
 
-// The width of the length before a text, by its code; none for a code of anything else.
-#[tactic(auto, unfolding(standard::specs::Codes::entry_of, standard::specs::Codes::codes, standard::specs::Choose::lookup))]
+// The width of the length of a text, by its code.
+#[tactic(auto, unfolding(standard::specs::Codes::entry_of, standard::specs::Codes::codes, standard::specs::Choose::lookup), using(crate::proofs::Entries::no_text_half, crate::proofs::Entries::no_text))]
 fn text_width(code: u8) -> Option<usize>
-    ensures { IfSome result (λ w. (layout_of code ≡ codes.scalar (codes.sized w)) × T (narrow w)) }
+    ensures { MatchOption result (is_text (layout_of code) ≡ false) (λ w. (layout_of code ≡ codes.scalar (codes.sized w)) × T (narrow w)) }
 {
+    if code / 32 != format_code::BINARY_8 / 32 {
+        return None;
+    }
     match code {
-        format_code::BINARY_8 => Some(1),
-        format_code::STRING_8 => Some(1),
-        format_code::SYMBOL_8 => Some(1),
-        format_code::BINARY_32 => Some(4),
-        format_code::STRING_32 => Some(4),
-        format_code::SYMBOL_32 => Some(4),
+        format_code::BINARY_8 | format_code::STRING_8 | format_code::SYMBOL_8 => Some(1),
+        format_code::BINARY_32 | format_code::STRING_32 | format_code::SYMBOL_32 => Some(4),
         _ => None,
     }
 }
 
-// The kind of a text, by its code.
-#[tactic(auto, unfolding(standard::specs::Codes::entry_of, standard::specs::Codes::codes, standard::specs::Choose::lookup))]
-fn text_kind(code: u8) -> Option<Kind>
-    ensures { IfSome result (λ k. (kind_of code ≡ kind_is k) × (judged (kind_is k) ≡ false)) }
+// Its kind.
+#[tactic(auto, unfolding(standard::specs::Codes::entry_of, standard::specs::Codes::codes, standard::specs::Choose::lookup), using(crate::proofs::Entries::binary_kind))]
+fn text_kind(code: u8) -> Kind
+    requires { is_text (layout_of code) ≡ true }
+    ensures { (kind_of code ≡ kind_is result) × (judged (kind_is result) ≡ false) }
 {
     match code {
-        format_code::BINARY_8 => Some(Kind::Binary),
-        format_code::BINARY_32 => Some(Kind::Binary),
-        format_code::STRING_8 => Some(Kind::String),
-        format_code::STRING_32 => Some(Kind::String),
-        format_code::SYMBOL_8 => Some(Kind::Symbol),
-        format_code::SYMBOL_32 => Some(Kind::Symbol),
-        _ => None,
+        format_code::STRING_8 | format_code::STRING_32 => Kind::String,
+        format_code::SYMBOL_8 | format_code::SYMBOL_32 => Kind::Symbol,
+        _ => Kind::Binary,
     }
-}
-
-// A text, by its code: as of a list or a map.
-#[tactic(auto, unfolding(crate::specs::Entries::sure))]
-fn text_of(code: u8) -> Option<Coded>
-    ensures { IfSome result (λ c. (kind_of code ≡ kind_is c.kind) × (layout_of code ≡ codes.scalar (codes.sized c.width)) × T (sure (kind_is c.kind) (codes.scalar (codes.sized c.width)))) }
-{
-    let width = text_width(code)?;
-    let kind = text_kind(code)?;
-    Some(Coded { kind, width })
 }
 
 // So many values, one after another, where so many levels are left.
@@ -459,26 +448,32 @@ fn many(
     })
 }
 
-// What stands behind a code. Lists, maps and texts, of which there are many, do not wait for their entry. `levels` is a plain number: it is
-// counted down to 0, and 0 is asked for.
+// What stands behind a code. Lists, maps, arrays and texts, of which there are many and which have the codes from 0xa0 up, do not wait for
+// their entry. `levels` is a plain number: it is counted down to 0, and 0 is asked for.
 #[cycle(array_behind_compound_inside_items_many_payload)]
 fn payload(room: Room, code: u8, levels: usize) -> Result<Extent, Stop>
     requires { 0 < levels }
     ensures { counted_is result ≡ measured (length room.entry.bytes.now) (read.payload levels code room.entry.place room.entry.bytes.now) }
 {
-    if let Some(found) = compound_of(code) {
-        return compound(room, found, levels - 1);
+    if code < format_code::BINARY_8 {
+        return behind(room, code, levels);
     }
-    if let Some(found) = text_of(code) {
-        return sized(room, found.width, found.kind);
+    if let Some(width) = compound_width(code) {
+        return compound(room, width, compound_kind(code), levels - 1);
     }
-    behind(room, code, levels)
+    if let Some(width) = array_width(code) {
+        return array(room, width, levels - 1);
+    }
+    if let Some(width) = text_width(code) {
+        return sized(room, width, text_kind(code));
+    }
+    Err(refused(Reason::CodeUnknown, room.place))
 }
 
-// What stands behind a code that is not a list's or a map's.
+// What stands behind any other code, all of which are below theirs.
 #[cycle(array_behind_compound_inside_items_many_payload)]
 fn behind(room: Room, code: u8, levels: usize) -> Result<Extent, Stop>
-    requires { (0 < levels) × (is_compound (layout_of code) ≡ false) }
+    requires { (0 < levels) × (code < 0xa0) }
     ensures { counted_is result ≡ measured (length room.entry.bytes.now) (read.payload levels code room.entry.place room.entry.bytes.now) }
 {
     let Some(entry) = entry_of(code) else {
@@ -490,23 +485,21 @@ fn behind(room: Room, code: u8, levels: usize) -> Result<Extent, Stop>
         Layout::Whole(width) => whole(room, width, entry.kind),
         Layout::Small(_) => fixed(room, 1, 0),
         Layout::Raw(width) => fixed(room, width, width),
-        Layout::Sized(width) => sized(room, width, entry.kind),
-        Layout::Compound(_) => unreachable!(),
-        Layout::Array(width) => array(room, width, levels - 1),
+        Layout::Sized(_) | Layout::Compound(_) | Layout::Array(_) => unreachable!(),
     }
 }
 
 // A list or a map, behind its code.
 #[cycle(array_behind_compound_inside_items_many_payload)]
-fn compound(room: Room, found: Coded, levels: usize) -> Result<Extent, Stop>
-    requires { T (narrow found.width) }
-    ensures { counted_is result ≡ measured (length room.entry.bytes.now) (read.behind (below levels) levels (kind_is found.kind) room.entry.place room.entry.bytes.now (codes.compound found.width)) }
+fn compound(room: Room, width: usize, kind: Kind, levels: usize) -> Result<Extent, Stop>
+    requires { T (narrow width) }
+    ensures { counted_is result ≡ measured (length room.entry.bytes.now) (read.behind (below levels) levels (kind_is kind) room.entry.place room.entry.bytes.now (codes.compound width)) }
 {
-    let body = fields(room, found.width)?;
-    if !is_paired(found.kind, body.count) {
+    let body = fields(room, width)?;
+    if !is_paired(kind, body.count) {
         return Err(refused(Reason::SizeAmiss, room.place));
     }
-    let from = found.width + found.width;
+    let from = width + width;
     let children = &room.bytes[from..body.end];
     let values = many(children, None, body.count, room.place + 1 + from, levels)?;
     done(values, body.end - from, body.end, room.place)

@@ -1,7 +1,7 @@
 -- Values and what stands behind codes: `many`, `payload`, `behind`, `compound`, `array`, `inside` and `items` call each other.
 -- Each turn from `many` to `payload` and back costs a level; the measures order the rest.
 use Rattle.std.proofs.lemmas.Grind.{common_steps}
-use Rattle.std.proofs.Common.{◌≡◌, ◌+◌, ◌-◌, ◌<◌, length, sym, ap, ◌∙◌, arith, refl, Result, Some, None}
+use Rattle.std.proofs.Common.{◌≡◌, ◌+◌, ◌-◌, ◌<◌, length, sym, ap, ◌∙◌, arith, refl, inl, inr, Result, Some, None}
 use Rattle.std.proofs.lemmas.Result.{err_from_is_err_and}
 use Rattle.std.specs.Result.{IsErrAnd}
 use mathlib.Core.Bool.{not}
@@ -9,16 +9,16 @@ use Rattle.standard.specs.Answer.{got}
 use Rattle.standard.specs.Codes as codes
 use Rattle.standard.specs.Facts.{and_left}
 use Rattle.standard.specs.InCode.{kind_is}
-use Rattle.reader.specs.Measuring.{contents, is_compound}
+use Rattle.reader.specs.Measuring.{contents, is_text, is_compound, is_array}
 use Rattle.reader.specs.Entries.{judged, sure}
 use Rattle.reader.specs.InCode.{body_in, stop_is, counted_is}
 use Rattle.reader.specs.declared.measuring.Extent.{Extent}
 use Rattle.reader.specs.declared.measuring.Stop.{Stop}
-use Rattle.reader.proofs.Entries.{entry_layout, entry_sure}
+use Rattle.reader.proofs.Entries.{entry_layout, entry_none, entry_sure, low, high}
 use Rattle.reader.proofs.Scalars.{constant_is, small_is, raw_is}
 use Rattle.reader.proofs.Rooms.{rest, part_length}
 use Rattle.reader.proofs.Several.{run_roomy, begin, end, stops, ends, again, plainly, begun}
-use Rattle.reader.proofs.Nodes.{behind_of, compound_of, text_of, unknown_is, scalar_is, described_is, Framed, framed, unframed, compound_odd, compound_is, array_is, inside_deep, inside_none, inside_empty, inside_some, items_no, fit_of, items_is}
+use Rattle.reader.proofs.Nodes.{behind_of, coded_is, unknown_is, scalar_is, described_is, Framed, framed, unframed, compound_odd, compound_is, array_is, inside_deep, inside_none, inside_empty, inside_some, items_no, fit_of, items_is}
 use Rattle.reader.proofs.measuring.+array_behind_compound_inside_items_many_payload.Goals as goal
 use Rattle.reader.proofs.measuring.+array_behind_compound_inside_items_many_payload.Goals.{inside-then-count-gt0+else-levels-eq0+else-is_empty, inside-else-count-gt0, many-then-is_plain+then-end-s, many-else-is_plain+in_ok-value}
 
@@ -41,16 +41,9 @@ behind-row_above-requires t c = let a = c.args in run_roomy None (a.levels - 1) 
 pub behind-whole-requires : goal.behind-whole-requires
 behind-whole-requires t c = entry_sure _ _ _ c.in-Some.ensures c.in-Whole.is
 
-pub behind-sized-requires : goal.behind-sized-requires
-behind-sized-requires t c = entry_sure _ _ _ c.in-Some.ensures c.in-Sized.is
-
-pub behind-array-requires : goal.behind-array-requires
-unfolding sure
-behind-array-requires t c = (omega arith, entry_sure _ _ _ c.in-Some.ensures c.in-Array.is)
-
 pub behind-returns-in_default : goal.behind-returns-in_default
 behind-returns-in_default t c =
-    let a = c.args in rw c.refused.ensures (sym (unknown_is a.levels a.code a.room.place a.room.bytes.now c.requires.0 c.in_default.ensures))
+    let a = c.args in rw c.refused.ensures (sym (unknown_is a.levels a.code a.room.place a.room.bytes.now c.requires.0 (entry_none a.code c.in_default.ensures)))
 
 pub behind-returns-in_err-many-in-Described : goal.behind-returns-in_err-many-in-Described
 behind-returns-in_err-many-in-Described t c =
@@ -85,46 +78,42 @@ behind-returns-in-Raw t c =
     let a = c.args in
     c.fixed-in-Raw.ensures ∙ sym (behind_of a.levels a.code a.room.place a.room.bytes.now _ _ c.requires.0 c.in-Some.ensures c.in-Raw.is ∙ scalar_is (a.levels - 1) _ a.room.place _ a.room.bytes.now _ ∙ raw_is _ _ a.room.place a.room.bytes.now (entry_sure _ _ _ c.in-Some.ensures c.in-Raw.is))
 
-pub behind-returns-in-Sized : goal.behind-returns-in-Sized
-behind-returns-in-Sized t c =
-    let a = c.args in
-    c.sized.ensures ∙ sym (behind_of a.levels a.code a.room.place a.room.bytes.now _ _ c.requires.0 c.in-Some.ensures c.in-Sized.is ∙ scalar_is (a.levels - 1) _ a.room.place _ a.room.bytes.now _)
-
 pub behind-unreachable-requires : goal.behind-unreachable-requires
-unfolding is_compound
+unfolding is_text is_compound is_array
 behind-unreachable-requires t c =
-    let e = entry_layout _ _ _ c.in-Some.ensures c.in-Compound.is in
-    let f = rw e at c.requires.1 in
-    cc
-
-pub behind-returns-in-Array : goal.behind-returns-in-Array
-behind-returns-in-Array t c =
-    let a = c.args in c.array.ensures _ ∙ sym (behind_of a.levels a.code a.room.place a.room.bytes.now _ _ c.requires.0 c.in-Some.ensures c.in-Array.is)
+    let n = low c.args.code c.requires.1 in
+    elim c.in-Sized.is [
+      | inl s ↦ let f = rw (entry_layout _ _ _ c.in-Some.ensures s.1) at n.0 in cc
+      | inr r ↦ elim r [
+        | inl s ↦ let f = rw (entry_layout _ _ _ c.in-Some.ensures s.1) at n.1 in cc
+        | inr s ↦ let f = rw (entry_layout _ _ _ c.in-Some.ensures s.1) at n.2 in cc
+      ]
+    ]
 
 pub compound-returns-in_err-body : goal.compound-returns-in_err-body
-compound-returns-in_err-body t c = let a = c.args in passed _ _ c.from_residual.ensures.1 ∙ (unframed a.levels a.found.width (kind_is a.found.kind) a.room.place _ _ a.room.bytes.now c.in_err-body.ensures.0).0
+compound-returns-in_err-body t c = let a = c.args in passed _ _ c.from_residual.ensures.1 ∙ (unframed a.levels a.width (kind_is a.kind) a.room.place _ _ a.room.bytes.now c.in_err-body.ensures.0).0
 
 pub compound-returns-then-not-is_paired : goal.compound-returns-then-not-is_paired
 compound-returns-then-not-is_paired t c =
     let a = c.args in
-    rw c.refused.ensures (compound_odd a.levels a.found.width (kind_is a.found.kind) a.room.place _ _ a.room.bytes.now (framed _ _ _ c.in_ok-body.body c.in_ok-body.ensures.0 c.in_ok-body.ensures.1) (sym c.is_paired.ensures ∙ c.if-not-is_paired.true))
+    rw c.refused.ensures (compound_odd a.levels a.width (kind_is a.kind) a.room.place _ _ a.room.bytes.now (framed _ _ _ c.in_ok-body.body c.in_ok-body.ensures.0 c.in_ok-body.ensures.1) (sym c.is_paired.ensures ∙ c.if-not-is_paired.true))
 
 pub compound-returns-in_err-values : goal.compound-returns-in_err-values
 compound-returns-in_err-values t c =
     let a = c.args in
-    passed _ _ c.from_residual-in_err-values.ensures.1 ∙ compound_is a.levels a.found.width (kind_is a.found.kind) a.room.place _ _ a.room.bytes.now (framed _ _ _ c.in_ok-body.body c.in_ok-body.ensures.0 c.in_ok-body.ensures.1) _ (sym c.is_paired.ensures ∙ c.if-not-is_paired.false) c.in_err-values.ensures
+    passed _ _ c.from_residual-in_err-values.ensures.1 ∙ compound_is a.levels a.width (kind_is a.kind) a.room.place _ _ a.room.bytes.now (framed _ _ _ c.in_ok-body.body c.in_ok-body.ensures.0 c.in_ok-body.ensures.1) _ (sym c.is_paired.ensures ∙ c.if-not-is_paired.false) c.in_err-values.ensures
 
 pub compound-done-requires : goal.compound-done-requires
 compound-done-requires t c =
     let a = c.args in
     let b = c.in_ok-body.body in
-    let g : Framed a.found.width a.room.place a.room.bytes.now b.count b.end = framed _ _ _ b c.in_ok-body.ensures.0 c.in_ok-body.ensures.1 in
-    run_roomy None a.levels b.count (a.room.place + 1 + (a.found.width + a.found.width)) (body_in a.found.width b.end a.room.bytes.now) _ c.in_ok-values.ensures g.few (omega (arith, g.size, g.ends))
+    let g : Framed a.width a.room.place a.room.bytes.now b.count b.end = framed _ _ _ b c.in_ok-body.ensures.0 c.in_ok-body.ensures.1 in
+    run_roomy None a.levels b.count (a.room.place + 1 + (a.width + a.width)) (body_in a.width b.end a.room.bytes.now) _ c.in_ok-values.ensures g.few (omega (arith, g.size, g.ends))
 
 pub compound-returns : goal.compound-returns
 compound-returns t c =
     let a = c.args in
-    c.done.ensures ∙ compound_is a.levels a.found.width (kind_is a.found.kind) a.room.place _ _ a.room.bytes.now (framed _ _ _ c.in_ok-body.body c.in_ok-body.ensures.0 c.in_ok-body.ensures.1) _ (sym c.is_paired.ensures ∙ c.if-not-is_paired.false) c.in_ok-values.ensures
+    c.done.ensures ∙ compound_is a.levels a.width (kind_is a.kind) a.room.place _ _ a.room.bytes.now (framed _ _ _ c.in_ok-body.body c.in_ok-body.ensures.0 c.in_ok-body.ensures.1) _ (sym c.is_paired.ensures ∙ c.if-not-is_paired.false) c.in_ok-values.ensures
 
 pub inside-returns-then-levels-eq0 : goal.inside-returns-then-levels-eq0
 inside-returns-then-levels-eq0 t c = let a = c.args in rw c.refused.ensures (inside_deep a.levels a.whole a.place a.count a.body.now c.if-count-gt0.true c.if-levels-eq0.true)
@@ -232,14 +221,33 @@ many-loop-preserved t c = elim c.if-is_plain.branch [
 pub many-returns : goal.many-returns
 many-returns t c = end _ _ _ _ _ _ _ _ _ c.loop.invariant (omega arith)
 
-pub payload-returns-in-Some-text_of : goal.payload-returns-in-Some-text_of
-payload-returns-in-Some-text_of t c =
-    let a = c.args in
-    let u = c.in-Some-text_of.ensures in
-    c.sized.ensures ∙ sym (text_of a.levels a.code a.room.place _ _ a.room.bytes.now c.requires u.0 u.1)
+pub payload-compound_kind-requires : goal.payload-compound_kind-requires
+unfolding is_compound
+payload-compound_kind-requires t c = ap is_compound c.in-Some.ensures.0
 
 pub payload-returns-in-Some : goal.payload-returns-in-Some
 payload-returns-in-Some t c =
+    let a = c.args in c.compound.ensures ∙ sym (coded_is a.levels a.code a.room.place _ _ a.room.bytes.now c.requires c.compound_kind.ensures c.in-Some.ensures.0)
+
+pub payload-returns-in-Some-array_width : goal.payload-returns-in-Some-array_width
+payload-returns-in-Some-array_width t c =
+    let a = c.args in c.array.ensures _ ∙ sym (coded_is a.levels a.code a.room.place _ _ a.room.bytes.now c.requires refl c.in-Some-array_width.ensures.0)
+
+pub payload-text_kind-requires : goal.payload-text_kind-requires
+unfolding is_text
+payload-text_kind-requires t c = ap is_text c.in-Some-text_width.ensures.0
+
+pub payload-sized-requires : goal.payload-sized-requires
+unfolding sure
+payload-sized-requires t c = rw c.text_kind.ensures.1 c.in-Some-text_width.ensures.1
+
+pub payload-returns-in-Some-text_width : goal.payload-returns-in-Some-text_width
+payload-returns-in-Some-text_width t c =
     let a = c.args in
-    let u = c.in-Some.ensures in
-    c.compound.ensures ∙ sym (compound_of a.levels a.code a.room.place _ _ a.room.bytes.now c.requires u.0 u.1)
+    c.sized.ensures ∙ sym (coded_is a.levels a.code a.room.place _ _ a.room.bytes.now c.requires c.text_kind.ensures.0 c.in-Some-text_width.ensures.0 ∙ scalar_is (a.levels - 1) _ a.room.place _ a.room.bytes.now _)
+
+pub payload-returns : goal.payload-returns
+payload-returns t c =
+    let a = c.args in
+    let e : codes.layout_of a.code ≡ codes.unknown = high a.code c.ranges.code.fits c.if-code-lt-BINARY_8.false c.in_default-text_width.ensures c.in_default.ensures c.in_default-array_width.ensures in
+    rw c.refused.ensures (sym (unknown_is a.levels a.code a.room.place a.room.bytes.now c.requires e))
