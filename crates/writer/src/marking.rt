@@ -2,7 +2,7 @@
 //
 // One pass over the rows. A list, a map or an array that is not empty goes onto a stack. When its last child is taken, the bytes since are
 // those of its children. The values below a described one are due in its place, so it needs no stack.
-ghost use Rattle.std.specs.Prelude.{◌≡◌, ℕ, ◌+◌, ◌-◌, ◌*◌, ◌%◌, ◌^◌, ◌≤◌, ◌<◌, eqb, length};
+ghost use Rattle.std.specs.Prelude.{◌≡◌, ℕ, true, false, MatchOption, ◌+◌, ◌-◌, ◌*◌, ◌%◌, ◌^◌, ◌≤◌, ◌<◌, eqb, length};
 ghost use Rattle.std.proofs.lemmas.List.Edits.{sets};
 ghost use Rattle.standard.specs.Choose.{if};
 ghost use Rattle.standard.specs.Bytes.{be};
@@ -16,7 +16,6 @@ ghost use Rattle.writer.specs.Marks.{marks};
 ghost use Rattle.writer.specs.Marking.{pushed, opened, boxes, box_width, kind_on, number_on, from_start, beyond, mode_in, entered, closed, taken, stacked, Ready, Complete, Markable, Tabled};
 
 use crate::head::Mode;
-use crate::row::Row;
 use crate::{head, put, row};
 use arrayvec::ArrayVec;
 use standard::kind::Kind;
@@ -73,16 +72,25 @@ impl Point {
     }
 }
 
-// Is a row a list, a map or an array that is not empty.
+// The kind of a row that is a list, a map or an array and not empty, by its words. Theirs are the highest kinds, and such rows, of which there
+// are many, do not take the jump of a choice among all kinds.
 #[tactic(auto, unfolding(crate::specs::Marks::mark_width, standard::specs::Kinds::style_of, standard::specs::Kinds::kinds, standard::specs::Choose::lookup, standard::specs::Kinds::count_in), using(crate::proofs::Onward::box_some))]
-fn is_boxed(kind: Kind, number: u64) -> bool
-    ensures { result ≡ boxes (style_of (kind_is kind)) number }
+fn boxed_kind(word: u64, number: u64) -> Option<Kind>
+    ensures { MatchOption result (boxes (style_of word) number ≡ false) (λ k. (kind_is k ≡ word) × (boxes (style_of word) number ≡ true)) }
 {
-    match kind {
-        Kind::List | Kind::Map => 0 < number,
-        Kind::Array => 0 < kind::count_of_elements(number),
-        _ => false,
+    if word < u64::from(Kind::List) {
+        return None;
     }
+    if word == u64::from(Kind::List) && 0 < number {
+        return Some(Kind::List);
+    }
+    if word == u64::from(Kind::Map) && 0 < number {
+        return Some(Kind::Map);
+    }
+    if word == u64::from(Kind::Array) && 0 < kind::count_of_elements(number) {
+        return Some(Kind::Array);
+    }
+    None
 }
 
 // The bytes before the children of a compound, by theirs and by what they are. Before the elements of an array stands their code, which its
@@ -172,10 +180,11 @@ fn take_row(words: &[u64], stack: &mut Stack, c: Point) -> Point
     ensures { (result ≡ taken c (kind_on words.now c) (number_on words.now c))
         × (stack.new.items ≡ stacked stack.old.items c (kind_on words.now c) (number_on words.now c)) }
 {
-    let Row { kind, number } = row::known_row(words, c.row);
-    if is_boxed(kind, number) {
+    let number = row::number_on(words, c.row);
+    if let Some(kind) = boxed_kind(row::word_on(words, c.row), number) {
         return open(stack, c, kind, kind::count_of_elements(number) as usize);
     }
+    let kind = row::known_row(words, c.row).kind;
     let letters = kind.style().letters(number) as usize;
     c.past(width_in(c.mode, kind, number) + letters, due_in_place(kind))
 }

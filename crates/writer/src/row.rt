@@ -114,7 +114,7 @@ pub(crate) fn check_row(
 
 // The first word of the row at `row`, its kind.
 #[inline(always)]
-fn word_on(words: &[u64], row: usize) -> u64
+pub(crate) fn word_on(words: &[u64], row: usize) -> u64
     requires { 2 * row + 2 ≤ length words.now }
     ensures { result ≡ get_or words.now (2 * row) 0 }
 {
