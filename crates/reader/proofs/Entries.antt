@@ -51,8 +51,9 @@ either x y t e = rw e at t
 pub narrow_four : (w : ℕ) → T (narrow w) → (w ≡ 1 → ⊥) → w ≡ 4
 narrow_four w t h = eqb→eq w 4 (either (eqb w 1) (eqb w 4) t (ne_eqb w 1 h))
 
-pub narrow_some : (w : ℕ) → T (narrow w) → leb 1 w ≡ true
-narrow_some w t = go (eqb w 1) refl
+-- and a narrow width is no 0
+pub narrow_positive : (w : ℕ) → T (narrow w) → leb 1 w ≡ true
+narrow_positive w t = go (eqb w 1) refl
   where
     go : (b : Bool) → eqb w 1 ≡ b → leb 1 w ≡ true
     go true i = subst (λ (v : ℕ). leb 1 v ≡ true) (sym (eqb-true w 1 i)) refl
@@ -112,29 +113,31 @@ wides c h = all_upto (λ c. not (element (layout_of c)) || (short_code c || eqb 
 pub wide_kind : (c : ℕ) → c < 256 → T (element (layout_of c)) → short_code c ≡ false → kind_of c ≡ c
 wide_kind c h t e = eqb→eq (kind_of c) c (either (short_code c) _ (either (not (element (layout_of c))) _ (wides c h) (rw (T_true (element (layout_of c)) t))) e)
 
--- Texts, lists and maps, and arrays have each the upper halves of two codes. P holds of all bytes of which Q does
+-- Lists and maps, arrays, and texts: no other byte has the upper three bits of their codes
+
+-- P holds of all bytes of which Q does
 among : (P Q : ℕ → Bool) (c : ℕ) → T (all (λ c. P c || not (Q c)) (upto 256)) → c < 256 → P c ≡ false → Q c ≡ false
 among P Q c t h e = T_false (Q c) (either (P c) (not (Q c)) (all_upto (λ c. P c || not (Q c)) 256 c t h) e)
 
-pub no_text_half : (c : ℕ) → c < 256 → (c / 32 ≡ 5 → ⊥) → is_text (layout_of c) ≡ false
+pub no_text_bits : (c : ℕ) → c < 256 → (c / 32 ≡ 5 → ⊥) → is_text (layout_of c) ≡ false
 unfolding lookup entry_of codes is_text all upto
-no_text_half c h f = among (λ c. eqb (c / 32) 5) (λ c. is_text (layout_of c)) c tt h (ne_eqb (c / 32) 5 f)
+no_text_bits c h f = among (λ c. eqb (c / 32) 5) (λ c. is_text (layout_of c)) c tt h (ne_eqb (c / 32) 5 f)
 
-pub no_compound_half : (c : ℕ) → c < 256 → (c / 32 ≡ 6 → ⊥) → is_compound (layout_of c) ≡ false
+pub no_compound_bits : (c : ℕ) → c < 256 → (c / 32 ≡ 6 → ⊥) → is_compound (layout_of c) ≡ false
 unfolding lookup entry_of codes is_compound all upto
-no_compound_half c h f = among (λ c. eqb (c / 32) 6) (λ c. is_compound (layout_of c)) c tt h (ne_eqb (c / 32) 6 f)
+no_compound_bits c h f = among (λ c. eqb (c / 32) 6) (λ c. is_compound (layout_of c)) c tt h (ne_eqb (c / 32) 6 f)
 
-pub no_array_half : (c : ℕ) → c < 256 → (c / 32 ≡ 7 → ⊥) → is_array (layout_of c) ≡ false
+pub no_array_bits : (c : ℕ) → c < 256 → (c / 32 ≡ 7 → ⊥) → is_array (layout_of c) ≡ false
 unfolding lookup entry_of codes is_array all upto
-no_array_half c h f = among (λ c. eqb (c / 32) 7) (λ c. is_array (layout_of c)) c tt h (ne_eqb (c / 32) 7 f)
+no_array_bits c h f = among (λ c. eqb (c / 32) 7) (λ c. is_array (layout_of c)) c tt h (ne_eqb (c / 32) 7 f)
 
--- and stand above all others
+-- their codes are above all others
 lower : (Q : ℕ → Bool) (c : ℕ) → T (all (λ c. not (Q c)) (upto 0xa0)) → c < 0xa0 → Q c ≡ false
 lower Q c t h = T_false (Q c) (all_upto (λ c. not (Q c)) 0xa0 c t h)
 
-pub low : (c : ℕ) → c < 0xa0 → (is_text (layout_of c) ≡ false) × (is_compound (layout_of c) ≡ false) × (is_array (layout_of c) ≡ false)
+pub low_codes : (c : ℕ) → c < 0xa0 → (is_text (layout_of c) ≡ false) × (is_compound (layout_of c) ≡ false) × (is_array (layout_of c) ≡ false)
 unfolding lookup entry_of codes is_text is_compound is_array all upto
-low c h = (lower (λ c. is_text (layout_of c)) c tt h, lower (λ c. is_compound (layout_of c)) c tt h, lower (λ c. is_array (layout_of c)) c tt h)
+low_codes c h = (lower (λ c. is_text (layout_of c)) c tt h, lower (λ c. is_compound (layout_of c)) c tt h, lower (λ c. is_array (layout_of c)) c tt h)
 
 highs : (c : ℕ) → c < 256 → T (ltb c 0xa0 || (is_text (layout_of c) || (is_compound (layout_of c) || (is_array (layout_of c) || not (is_code (layout_of c))))))
 unfolding lookup entry_of codes is_text is_compound is_array is_code all upto
@@ -148,8 +151,8 @@ no_code (scalar s) t = absurd t
 no_code (compound w) t = absurd t
 no_code (array w) t = absurd t
 
-pub high : (c : ℕ) → c < 256 → 0xa0 ≤ c → is_text (layout_of c) ≡ false → is_compound (layout_of c) ≡ false → is_array (layout_of c) ≡ false → layout_of c ≡ unknown
-high c h i e f g =
+pub high_codes : (c : ℕ) → c < 256 → 0xa0 ≤ c → is_text (layout_of c) ≡ false → is_compound (layout_of c) ≡ false → is_array (layout_of c) ≡ false → layout_of c ≡ unknown
+high_codes c h i e f g =
     no_code (layout_of c) (either (is_array (layout_of c)) _ (either (is_compound (layout_of c)) _ (either (is_text (layout_of c)) _ (either (ltb c 0xa0) _ (highs c h) (le-ltb c 0xa0 i)) e) f) g)
 
 -- is it one of these bytes
@@ -171,8 +174,8 @@ pub no_array : (c : ℕ) → c < 256 → (c ≡ 0xe0 → ⊥) → (c ≡ 0xf0 �
 unfolding lookup entry_of codes is_array all upto one_of
 no_array c h f g = among (λ c. one_of c (0xe0 ∷ 0xf0 ∷ [])) (λ c. is_array (layout_of c)) c tt h (rw (ne_eqb c 0xe0 f, ne_eqb c 0xf0 g) refl)
 
-pub other_codes : (c d : ℕ) → is_compound (layout_of c) ≡ false → is_compound (layout_of d) ≡ true → c ≡ d → ⊥
-other_codes c d h i e = let f = rw e at h in cc
+pub no_compound_code : (c d : ℕ) → is_compound (layout_of c) ≡ false → is_compound (layout_of d) ≡ true → c ≡ d → ⊥
+no_compound_code c d h i e = let f = rw e at h in cc
 
 -- a compound that is no list is a map, and a text that is no string and no symbol is binary
 maps : (c : ℕ) → c < 256 → T (one_of c (0xc0 ∷ 0xd0 ∷ []) || (not (is_compound (layout_of c)) || eqb (kind_of c) 0xd1))

@@ -12,7 +12,7 @@ use lib.ListN.{length, drop}
 use Rattle.standard.specs.Answer.{Answer, got, refuse, Place, at, byte, ◌>>=◌, ◌>>◌, need, too_deep, element_unfit, input_short, code_unknown, size_amiss}
 use Rattle.standard.specs.Tree.{Tree, node, Trees, tall, tall*, text, text*}
 use Rattle.standard.specs.Codes as codes
-use Rattle.standard.specs.Codes.{Scalar, Layout, unknown, described, scalar, sized, compound, array, is_code, element, entry_of, layout_of, kind_of}
+use Rattle.standard.specs.Codes.{Scalar, Layout, unknown, described, scalar, compound, array, is_code, element, entry_of, layout_of, kind_of}
 use Rattle.standard.specs.Kinds.{paired, named}
 use Rattle.standard.specs.Read.{leaf, many, done, fields, held, items, inside, behind, payload}
 use Rattle.laws.specs.Answers.{Holds, yes', weaken}

@@ -86,8 +86,8 @@ fn parent(kind: Kind, count: u64, from: usize) -> Row
     }
 }
 
-// The number of an element code's kind: the code itself, where it is that of the wide form. Looking the entry up takes longer. It stays a call:
-// in place it would take the registers in which the rows of lists are made.
+// The number of an element code's kind: the code itself, where it is that of the wide form. Looking the entry up takes longer. It stays a
+// call: in place it would take the registers in which the rows of lists are made.
 #[inline(never)]
 #[tactic(auto, unfolding(standard::specs::Codes::entry_of, standard::specs::Codes::codes, standard::specs::Choose::lookup))]
 fn element_kind(code: u8) -> u64
@@ -203,8 +203,8 @@ fn compound_row(here: Cursor, kind: Kind, width: usize) -> Row
     parent(kind, count, here.at + width + width)
 }
 
-// The row of what stands behind the code of anything but a list or a map. Each code goes its own way at once, with its kind: looking its
-// entry up takes as long again, and so does the number of a kind that is not known here.
+// The row of what stands behind a code, but for lists and maps with a size in front. Each code goes its own way at once, with its kind:
+// looking its entry up takes as long again, and so does the number of a kind that is not known here.
 #[tactic(auto, unfolding(standard::specs::Codes::entry_of, standard::specs::Codes::codes, standard::specs::Choose::lookup), using(crate::proofs::RowSteps::described_row, crate::proofs::RowSteps::entry_there))]
 fn other_row(here: Cursor, code: u8) -> Row
     requires { (is_compound (layout_of code) ≡ false) × Lands (behind_step (kind_of code) (drop here.at here.bytes.now) (layout_of code)) }
@@ -251,7 +251,8 @@ fn other_row(here: Cursor, code: u8) -> Row
     }
 }
 
-// The row of what stands behind a code. Lists and maps, of which there are many, do not take the jump that the others take.
+// The row of what stands behind a code. Lists and maps, of which there are many, do not take the jump that the others take; the empty list
+// with a code of its own does.
 fn row_behind(here: Cursor, code: u8) -> Row
     requires { Lands (behind_step (kind_of code) (drop here.at here.bytes.now) (layout_of code)) }
     ensures { RowFound here.entry.bytes.now (behind_step (kind_of code) (drop here.entry.at here.entry.bytes.now) (layout_of code)) result }

@@ -333,11 +333,11 @@ fn plain_width(code: u8) -> usize
     (1usize << upper) / 32
 }
 
-// Lists and maps, arrays, and texts are asked for one sort after the other, each first by the upper half of its two codes: as one choice
-// among all the codes they would take a jump through a table.
+// Lists and maps, arrays, and texts are asked for one sort after the other, each first by the upper three bits of its codes, which no other
+// sort has: as one choice among all the codes they would take a jump through a table.
 
 // The width of the size and the count of a list or a map, by its code.
-#[tactic(auto, unfolding(standard::specs::Codes::entry_of, standard::specs::Codes::codes, standard::specs::Choose::lookup), using(crate::proofs::Entries::no_compound_half, crate::proofs::Entries::no_compound))]
+#[tactic(auto, unfolding(standard::specs::Codes::entry_of, standard::specs::Codes::codes, standard::specs::Choose::lookup), using(crate::proofs::Entries::no_compound_bits, crate::proofs::Entries::no_compound))]
 pub(crate) fn compound_width(code: u8) -> Option<usize>
     ensures { MatchOption result (is_compound (layout_of code) ≡ false) (λ w. (layout_of code ≡ codes.compound w) × T (narrow w)) }
 {
@@ -364,7 +364,7 @@ pub(crate) fn compound_kind(code: u8) -> Kind
 }
 
 // The width of an array's size and count, by its code.
-#[tactic(auto, unfolding(standard::specs::Codes::entry_of, standard::specs::Codes::codes, standard::specs::Choose::lookup), using(crate::proofs::Entries::no_array_half, crate::proofs::Entries::no_array))]
+#[tactic(auto, unfolding(standard::specs::Codes::entry_of, standard::specs::Codes::codes, standard::specs::Choose::lookup), using(crate::proofs::Entries::no_array_bits, crate::proofs::Entries::no_array))]
 fn array_width(code: u8) -> Option<usize>
     ensures { MatchOption result (is_array (layout_of code) ≡ false) (λ w. (layout_of code ≡ codes.array w) × T (narrow w)) }
 {
@@ -379,7 +379,7 @@ fn array_width(code: u8) -> Option<usize>
 }
 
 // The width of the length of a text, by its code.
-#[tactic(auto, unfolding(standard::specs::Codes::entry_of, standard::specs::Codes::codes, standard::specs::Choose::lookup), using(crate::proofs::Entries::no_text_half, crate::proofs::Entries::no_text))]
+#[tactic(auto, unfolding(standard::specs::Codes::entry_of, standard::specs::Codes::codes, standard::specs::Choose::lookup), using(crate::proofs::Entries::no_text_bits, crate::proofs::Entries::no_text))]
 fn text_width(code: u8) -> Option<usize>
     ensures { MatchOption result (is_text (layout_of code) ≡ false) (λ w. (layout_of code ≡ codes.scalar (codes.sized w)) × T (narrow w)) }
 {
@@ -448,8 +448,8 @@ fn many(
     })
 }
 
-// What stands behind a code. Lists, maps, arrays and texts, of which there are many and which have the codes from 0xa0 up, do not wait for
-// their entry. `levels` is a plain number: it is counted down to 0, and 0 is asked for.
+// What stands behind a code. Lists, maps, arrays and texts, of which there are many and which but for the empty list's own code have those
+// from 0xa0 up, do not wait for their entry. `levels` is a plain number: it is counted down to 0, and 0 is asked for.
 #[cycle(array_behind_compound_inside_items_many_payload)]
 fn payload(room: Room, code: u8, levels: usize) -> Result<Extent, Stop>
     requires { 0 < levels }

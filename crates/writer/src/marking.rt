@@ -72,8 +72,8 @@ impl Point {
     }
 }
 
-// The kind of a row that is a list, a map or an array and not empty, by its words. Theirs are the highest kinds, and such rows, of which there
-// are many, do not take the jump of a choice among all kinds.
+// The kind of a row that is a list, a map or an array and not empty, by its words. Theirs are the highest kinds, and such rows, of which
+// there are many, do not take the jump of a choice among all kinds.
 #[tactic(auto, unfolding(crate::specs::Marks::mark_width, standard::specs::Kinds::style_of, standard::specs::Kinds::kinds, standard::specs::Choose::lookup, standard::specs::Kinds::count_in), using(crate::proofs::Onward::box_some))]
 fn boxed_kind(word: u64, number: u64) -> Option<Kind>
     ensures { MatchOption result (boxes (style_of word) number ≡ false) (λ k. (kind_is k ≡ word) × (boxes (style_of word) number ≡ true)) }

@@ -14,7 +14,7 @@ use Rattle.reader.specs.Entries.{judged, sure}
 use Rattle.reader.specs.InCode.{body_in, stop_is, counted_is}
 use Rattle.reader.specs.declared.measuring.Extent.{Extent}
 use Rattle.reader.specs.declared.measuring.Stop.{Stop}
-use Rattle.reader.proofs.Entries.{entry_layout, entry_none, entry_sure, low, high}
+use Rattle.reader.proofs.Entries.{entry_layout, entry_none, entry_sure, low_codes, high_codes}
 use Rattle.reader.proofs.Scalars.{constant_is, small_is, raw_is}
 use Rattle.reader.proofs.Rooms.{rest, part_length}
 use Rattle.reader.proofs.Several.{run_roomy, begin, end, stops, ends, again, plainly, begun}
@@ -81,7 +81,7 @@ behind-returns-in-Raw t c =
 pub behind-unreachable-requires : goal.behind-unreachable-requires
 unfolding is_text is_compound is_array
 behind-unreachable-requires t c =
-    let n = low c.args.code c.requires.1 in
+    let n = low_codes c.args.code c.requires.1 in
     elim c.in-Sized.is [
       | inl s ↦ let f = rw (entry_layout _ _ _ c.in-Some.ensures s.1) at n.0 in cc
       | inr r ↦ elim r [
@@ -249,5 +249,5 @@ payload-returns-in-Some-text_width t c =
 pub payload-returns : goal.payload-returns
 payload-returns t c =
     let a = c.args in
-    let e : codes.layout_of a.code ≡ codes.unknown = high a.code c.ranges.code.fits c.if-code-lt-BINARY_8.false c.in_default-text_width.ensures c.in_default.ensures c.in_default-array_width.ensures in
+    let e : codes.layout_of a.code ≡ codes.unknown = high_codes a.code c.ranges.code.fits c.if-code-lt-BINARY_8.false c.in_default-text_width.ensures c.in_default.ensures c.in_default-array_width.ensures in
     rw c.refused.ensures (sym (unknown_is a.levels a.code a.room.place a.room.bytes.now c.requires e))

@@ -6,7 +6,7 @@ use Rattle.standard.specs.Answer.{got}
 use Rattle.standard.specs.Codes.{Layout, compound, array, is_code, element}
 use Rattle.reader.specs.Entries.{narrow}
 use Rattle.reader.specs.Measuring.{element_of}
-use Rattle.reader.proofs.Entries.{narrow_some}
+use Rattle.reader.proofs.Entries.{narrow_positive}
 use Rattle.reader.proofs.measuring.element_of.Goals as goal
 use Rattle.reader.proofs.measuring.element_of.Goals.{then-is_some-via-then-is_some, then-is_some-via-else-is_some+then-is_some-2}
 
@@ -16,11 +16,11 @@ some None P R Q m e f = absurd (false≢true e)
 
 compounds : (p w : ℕ) (y : Layout) → y ≡ compound w → T (narrow w) → got (tt {0}) ≡ element_of p y
 unfolding element_of is_code element
-compounds p w y e t = rw (e, narrow_some w t) refl
+compounds p w y e t = rw (e, narrow_positive w t) refl
 
 arrays : (p w : ℕ) (y : Layout) → y ≡ array w → T (narrow w) → got (tt {0}) ≡ element_of p y
 unfolding element_of is_code element
-arrays p w y e t = rw (e, narrow_some w t) refl
+arrays p w y e t = rw (e, narrow_positive w t) refl
 
 pub returns-then-is_some : goal.returns-then-is_some
 returns-then-is_some c =
