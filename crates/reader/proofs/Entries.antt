@@ -177,20 +177,17 @@ no_array c h f g = among (λ c. one_of c (0xe0 ∷ 0xf0 ∷ [])) (λ c. is_array
 pub no_compound_code : (c d : ℕ) → is_compound (layout_of c) ≡ false → is_compound (layout_of d) ≡ true → c ≡ d → ⊥
 no_compound_code c d h i e = let f = rw e at h in cc
 
+-- the kind of all bytes of which Q holds, but for those of a list
+kind_but : (Q : ℕ → Bool) (cs : List ℕ) (k c : ℕ) → T (all (λ c. one_of c cs || (not (Q c) || eqb (kind_of c) k)) (upto 256)) → c < 256 → Q c ≡ true → one_of c cs ≡ false → kind_of c ≡ k
+kind_but Q cs k c t h e f =
+    eqb→eq (kind_of c) k (either (not (Q c)) (eqb (kind_of c) k) (either (one_of c cs) _ (all_upto (λ c. one_of c cs || (not (Q c) || eqb (kind_of c) k)) 256 c t h) f) (ap not e))
+
 -- a compound that is no list is a map, and a text that is no string and no symbol is binary
-maps : (c : ℕ) → c < 256 → T (one_of c (0xc0 ∷ 0xd0 ∷ []) || (not (is_compound (layout_of c)) || eqb (kind_of c) 0xd1))
-unfolding lookup entry_of codes is_compound all upto one_of
-maps c h = all_upto (λ c. one_of c (0xc0 ∷ 0xd0 ∷ []) || (not (is_compound (layout_of c)) || eqb (kind_of c) 0xd1)) 256 c tt h
-
 pub map_kind : (c : ℕ) → c < 256 → is_compound (layout_of c) ≡ true → (c ≡ 0xc0 → ⊥) → (c ≡ 0xd0 → ⊥) → kind_of c ≡ 0xd1
-unfolding one_of
-map_kind c h e f g = eqb→eq (kind_of c) 0xd1 (either (not (is_compound (layout_of c))) _ (either (one_of c (0xc0 ∷ 0xd0 ∷ [])) _ (maps c h) (rw (ne_eqb c 0xc0 f, ne_eqb c 0xd0 g) refl)) (rw e refl))
-
-binaries : (c : ℕ) → c < 256 → T (one_of c (0xa1 ∷ 0xa3 ∷ 0xb1 ∷ 0xb3 ∷ []) || (not (is_text (layout_of c)) || eqb (kind_of c) 0xb0))
-unfolding lookup entry_of codes is_text all upto one_of
-binaries c h = all_upto (λ c. one_of c (0xa1 ∷ 0xa3 ∷ 0xb1 ∷ 0xb3 ∷ []) || (not (is_text (layout_of c)) || eqb (kind_of c) 0xb0)) 256 c tt h
+unfolding lookup entry_of codes is_compound all upto one_of
+map_kind c h e f g = kind_but (λ c. is_compound (layout_of c)) (0xc0 ∷ 0xd0 ∷ []) 0xd1 c tt h e (rw (ne_eqb c 0xc0 f, ne_eqb c 0xd0 g) refl)
 
 pub binary_kind : (c : ℕ) → c < 256 → is_text (layout_of c) ≡ true → (c ≡ 0xa1 → ⊥) → (c ≡ 0xa3 → ⊥) → (c ≡ 0xb1 → ⊥) → (c ≡ 0xb3 → ⊥) → kind_of c ≡ 0xb0
-unfolding one_of
+unfolding lookup entry_of codes is_text all upto one_of
 binary_kind c h e f g i j =
-    eqb→eq (kind_of c) 0xb0 (either (not (is_text (layout_of c))) _ (either (one_of c (0xa1 ∷ 0xa3 ∷ 0xb1 ∷ 0xb3 ∷ [])) _ (binaries c h) (rw (ne_eqb c 0xa1 f, ne_eqb c 0xa3 g, ne_eqb c 0xb1 i, ne_eqb c 0xb3 j) refl)) (rw e refl))
+    kind_but (λ c. is_text (layout_of c)) (0xa1 ∷ 0xa3 ∷ 0xb1 ∷ 0xb3 ∷ []) 0xb0 c tt h e (rw (ne_eqb c 0xa1 f, ne_eqb c 0xa3 g, ne_eqb c 0xb1 i, ne_eqb c 0xb3 j) refl)
